@@ -1,0 +1,5 @@
+pub mod Contradiction
+pub mod Xor
+pub mod Bits
+pub mod SumLaws
+pub mod ListLaws

@@ -1,0 +1,69 @@
+-- Document 01, "Board and loops": what a board is (a multigraph whose edges carry marks), and when what is lent is valid.
+-- Assumes nothing.
+use Prim.Native.Nat.{ℕ, _+_, _*_, _≤_, _<_}
+use mathlib.Core.Path.{_≡_}
+use mathlib.Core.Logic.{_≢_}
+use mathlib.Core.List.{List}
+use lib.ListN.{length, getD}
+
+-- A board has vertices, numbered from 0, and edges, numbered from 0 in list order. It is lent as end numbers, two for each edge,
+-- and one mark for each edge.
+pub record Board : Type 0 where
+  pub vertices : ℕ
+  pub ends : List ℕ
+  pub marks : List ℕ
+
+-- what is lent, slice by slice, as one board: a vertex count, ends and marks
+abbrev pub boardOf : ℕ → List ℕ → List ℕ → Board
+boardOf n ends marks = record { vertices = n; ends = ends; marks = marks }
+
+abbrev pub edges : Board → ℕ
+edges B = length (B .marks)
+
+abbrev pub firstEnd : Board → ℕ → ℕ
+firstEnd B e = getD (B .ends) (2 * e) 0
+
+abbrev pub secondEnd : Board → ℕ → ℕ
+secondEnd B e = getD (B .ends) (2 * e + 1) 0
+
+-- Bit 0 says that the edge crosses line A, bit 1 line B.
+abbrev pub mark : Board → ℕ → ℕ
+mark B e = getD (B .marks) e 0
+
+-- the limits: 1 to 1,024 vertices, 0 to 4,096 edges
+abbrev pub vertexLimit : ℕ
+vertexLimit = 1024
+
+abbrev pub edgeLimit : ℕ
+edgeLimit = 4096
+
+-- a board that breaks none of the rules 1 to 6
+pub record Valid (B : Board) : Type 0 where
+  pub some-vertex : 1 ≤ B .vertices
+  pub vertex-limit : B .vertices ≤ vertexLimit
+  pub edge-limit : edges B ≤ edgeLimit
+  pub two-ends : length (B .ends) ≡ 2 * edges B
+  pub first-in-range : (e : ℕ) → e < edges B → firstEnd B e < B .vertices
+  pub second-in-range : (e : ℕ) → e < edges B → secondEnd B e < B .vertices
+  pub ends-differ : (e : ℕ) → e < edges B → firstEnd B e ≢ secondEnd B e
+  pub mark-in-range : (e : ℕ) → e < edges B → mark B e ≤ 3
+
+-- Syndrome bytes (one for each vertex), loss bytes and handed-in bytes (one for each edge): n of them, each 0 or 1.
+pub record ValidBytes (n : ℕ) (l : List ℕ) : Type 0 where
+  pub count : length l ≡ n
+  pub each : (i : ℕ) → i < n → getD l i 0 ≤ 1
+
+-- What is lent for decoding: a board, its syndrome bytes and its loss bytes (the erasure of source document 000).
+pub record Sheet : Type 0 where
+  pub board : Board
+  pub syndrome : List ℕ
+  pub loss : List ℕ
+
+-- what is lent, slice by slice, as one sheet: a board with its syndrome bytes and its loss bytes
+abbrev pub sheetOf : Board → List ℕ → List ℕ → Sheet
+sheetOf B syndrome loss = record { board = B; syndrome = syndrome; loss = loss }
+
+pub record ValidSheet (X : Sheet) : Type 0 where
+  pub board : Valid (X .board)
+  pub syndrome : ValidBytes (X .board .vertices) (X .syndrome)
+  pub loss : ValidBytes (edges (X .board)) (X .loss)

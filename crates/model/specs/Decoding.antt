@@ -1,0 +1,32 @@
+-- Document 01, "Peeling": what decoding returns and writes, and when there is no correction.
+-- Assumes nothing.
+use Prim.Native.Nat.{ℕ}
+use mathlib.Core.Bool.{Bool, true}
+use mathlib.Core.List.{List}
+use Rattle.model.specs.Sums.{Set, someUpTo, ones}
+use Rattle.model.specs.Board.{Board, Sheet}
+use Rattle.model.specs.Components.{labels, label}
+use Rattle.model.specs.Growth.{odd, full, grown}
+use Rattle.model.specs.Correction.{correction}
+
+-- the connected parts of the whole board
+unfoldable pub parts : Board → List ℕ
+parts B = labels B (λ e. true)
+
+-- v lies in a part of the whole board that holds an odd number of syndrome vertices
+unfoldable pub inOddPart : Board → Set → ℕ → Bool
+inOddPart B S v = odd B (parts B) S (label (parts B) v)
+
+-- If some connected part of the whole board holds an odd number of syndrome vertices, there is no correction.
+unfoldable pub noCorrection : Board → Set → Bool
+noCorrection B S = someUpTo (B .vertices) (inOddPart B S)
+
+-- Otherwise the key: the growth count, a support byte for each edge, and the correction.
+unfoldable pub growths : Sheet → ℕ
+growths X = grown (X .board) (ones (X .syndrome)) (ones (X .loss)) .growths
+
+unfoldable pub supports : Sheet → List ℕ
+supports X = grown (X .board) (ones (X .syndrome)) (ones (X .loss)) .support
+
+unfoldable pub corrected : Sheet → Set
+corrected X = correction (X .board) (full (supports X)) (ones (X .syndrome))

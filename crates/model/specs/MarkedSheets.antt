@@ -1,0 +1,162 @@
+-- Document 01, "Marked sheets": m1 to m9 as theorems about the definitions, gathered as one list, each proved by computation.
+-- Assumes nothing.
+use Prim.Native.Nat.{ℕ, _+_, _*_}
+use mathlib.Core.Path.{_≡_, refl}
+use mathlib.Core.Bool.{true, false, _||_}
+use mathlib.Core.List.{List, [], _∷_}
+use mathlib.Core.Option.{none, some}
+use lib.ListN.{length, replicate}
+use lib.Dec.{eqb}
+use Rattle.model.specs.declared.answers.Decoded.the-variants.{Key, Refused}
+use Rattle.model.specs.Sums.{Set, oddUpTo, countUpTo, someUpTo, firstUpTo, values, ones, bytes, members}
+use Rattle.model.specs.Board.{Board, Sheet, edges}
+use Rattle.model.specs.Syndrome.{syndrome}
+use Rattle.model.specs.Winding.{closed, crossings, winds, together}
+use Rattle.model.specs.Components.{labelsUpTo, labels}
+use Rattle.model.specs.Growth.{start, full, clusters, odd, exposed, boundary, choiceUpTo, choice, grow, growFrom, grown}
+use Rattle.model.specs.Forest.{takenUpTo, forest}
+use Rattle.model.specs.Correction.{oddSide, correction}
+use Rattle.model.specs.Decoding.{parts, inOddPart, noCorrection, growths, supports, corrected}
+use Rattle.model.specs.Demand3.{lostEdges, keptEdges}
+use Rattle.model.specs.Distance.{fewestFrom, fewest}
+use Rattle.model.specs.Torus.{torusEnds, torusMarks, torus}
+use Rattle.model.specs.Refusals.{decodeRefusal}
+use Rattle.model.specs.Outcomes.{decodeAnswer, noneAt}
+
+-- the set of the numbers on a list
+unfoldable pub setOf : List ℕ → Set
+setOf [] i = false
+setOf (x ∷ xs) i = eqb i x || setOf xs i
+
+-- a board with the syndrome vertices and lost edges on two lists
+unfoldable pub sheet : Board → List ℕ → List ℕ → Sheet
+unfolding setOf
+sheet B lit lost = record { board = B; syndrome = bytes (B .vertices) (setOf lit); loss = bytes (edges B) (setOf lost) }
+
+-- a buffer to be filled, for a sheet's edges
+abbrev pub blank : Sheet → List ℕ
+blank X = replicate (edges (X .board)) 0
+
+-- Ring: the board of the text example.
+abbrev pub ring : Board
+ring = record { vertices = 4; ends = 0 ∷ 1 ∷ 1 ∷ 2 ∷ 2 ∷ 3 ∷ 3 ∷ 0 ∷ []; marks = 0 ∷ 0 ∷ 0 ∷ 1 ∷ [] }
+
+-- P: vertices 0 to 3, edges 0-1, 1-2, 2-3, marks 0.
+abbrev pub path : Board
+path = record { vertices = 4; ends = 0 ∷ 1 ∷ 1 ∷ 2 ∷ 2 ∷ 3 ∷ []; marks = 0 ∷ 0 ∷ 0 ∷ [] }
+
+-- m8: two vertices, edges 0-1 with marks 0 and 1.
+abbrev pub pair : Board
+pair = record { vertices = 2; ends = 0 ∷ 1 ∷ 0 ∷ 1 ∷ []; marks = 0 ∷ 1 ∷ [] }
+
+-- m9: one vertex, no edge.
+abbrev pub point : Board
+point = record { vertices = 1; ends = []; marks = [] }
+
+-- the table answers with this many growths and this correction
+pub record Keyed (X : Sheet) (steps : ℕ) (edges : List ℕ) : Type 0 where
+  pub answers : decodeAnswer X (blank X) (blank X) 0 ≡ Key steps (length edges)
+  pub corrects : members (length (X .board .marks)) (corrected X) ≡ edges
+
+-- these edges end full
+abbrev pub EndFull : Sheet → List ℕ → Type 0
+EndFull X e = members (edges (X .board)) (full (supports X)) ≡ e
+
+-- the table answers 10
+abbrev pub NoKey : Sheet → Type 0
+NoKey X = (v : ℕ) → decodeAnswer X (blank X) (blank X) v ≡ Refused (noneAt v)
+
+-- E has the syndrome put
+abbrev pub Fits : Sheet → List ℕ → Type 0
+Fits X E = members (X .board .vertices) (syndrome (X .board) (setOf E)) ≡ members (X .board .vertices) (ones (X .syndrome))
+
+-- t + 2s of the set E
+abbrev pub weight : Sheet → List ℕ → ℕ
+weight X E = lostEdges (X .board) (ones (X .loss)) + 2 * keptEdges (X .board) (ones (X .loss)) (setOf E)
+
+-- m1 Ring, {0,3}: 2 growths, correction {3}
+abbrev pub m1 : Sheet
+m1 = sheet ring (0 ∷ 3 ∷ []) []
+
+-- m2 Ring, lost 0, 1, 2, {0,3}: 0 growths, {0,1,2}; E = {0,1,2} has t + 2s = 3, below 4
+abbrev pub m2 : Sheet
+m2 = sheet ring (0 ∷ 3 ∷ []) (0 ∷ 1 ∷ 2 ∷ [])
+
+-- m3 Ring, all lost, {0,3}: {0,1,2}; E = {3} has 4, and winds with it
+abbrev pub m3 : Sheet
+m3 = sheet ring (0 ∷ 3 ∷ []) (0 ∷ 1 ∷ 2 ∷ 3 ∷ [])
+
+-- m4 P, {0,3}: 6 growths, {0,1,2}
+abbrev pub m4 : Sheet
+m4 = sheet path (0 ∷ 3 ∷ []) []
+
+-- m5 P, {0,1,2}: 10
+abbrev pub m5 : Sheet
+m5 = sheet path (0 ∷ 1 ∷ 2 ∷ []) []
+
+-- m6 T, {0,1}: 2 growths, full 0, 1, 4, 13, correction {0}
+abbrev pub m6 : Sheet
+m6 = sheet (torus 3) (0 ∷ 1 ∷ []) []
+
+-- m7 T, {0,4}: 4 growths, full 0, 1, 3, 4, 6, 8, 9, 13, correction {0,3}
+abbrev pub m7 : Sheet
+m7 = sheet (torus 3) (0 ∷ 4 ∷ []) []
+
+-- m8 two vertices, edges 0-1 with marks 0 and 1, {0,1}: 2 growths, {0}; distance 2
+abbrev pub m8 : Sheet
+m8 = sheet pair (0 ∷ 1 ∷ []) []
+
+-- m9 one vertex, no edge: {} gives 0 growths, {0} gives 10; distance none
+abbrev pub m9 : Sheet
+m9 = sheet point [] []
+
+abbrev pub m9-lit : Sheet
+m9-lit = sheet point (0 ∷ []) []
+
+pub record MarkedSheets : Type 0 where
+  pub m1-key : Keyed m1 2 (3 ∷ [])
+  pub ring-distance : fewest ring ≡ some 4
+  pub m2-key : Keyed m2 0 (0 ∷ 1 ∷ 2 ∷ [])
+  pub m2-fits : Fits m2 (0 ∷ 1 ∷ 2 ∷ [])
+  pub m2-weight : weight m2 (0 ∷ 1 ∷ 2 ∷ []) ≡ 3
+  pub m3-key : Keyed m3 0 (0 ∷ 1 ∷ 2 ∷ [])
+  pub m3-fits : Fits m3 (3 ∷ [])
+  pub m3-weight : weight m3 (3 ∷ []) ≡ 4
+  pub m3-winds : winds ring (together (setOf (3 ∷ [])) (corrected m3)) ≡ true
+  pub m4-key : Keyed m4 6 (0 ∷ 1 ∷ 2 ∷ [])
+  pub m5-none : NoKey m5
+  pub m6-key : Keyed m6 2 (0 ∷ [])
+  pub m6-full : EndFull m6 (0 ∷ 1 ∷ 4 ∷ 13 ∷ [])
+  pub m7-key : Keyed m7 4 (0 ∷ 3 ∷ [])
+  pub m7-full : EndFull m7 (0 ∷ 1 ∷ 3 ∷ 4 ∷ 6 ∷ 8 ∷ 9 ∷ 13 ∷ [])
+  pub m8-key : Keyed m8 2 (0 ∷ [])
+  pub m8-distance : fewest pair ≡ some 2
+  pub m9-key : Keyed m9 0 []
+  pub m9-none : NoKey m9-lit
+  pub m9-distance : fewest point ≡ none
+
+pub marked-sheets : MarkedSheets
+unfolding members setOf sheet oddUpTo countUpTo someUpTo firstUpTo values syndrome closed crossings winds labelsUpTo labels start clusters odd exposed boundary choiceUpTo choice grow growFrom grown takenUpTo forest oddSide correction parts inOddPart noCorrection growths supports corrected fewestFrom fewest torusEnds torusMarks torus decodeRefusal decodeAnswer
+marked-sheets =
+    record {
+      m1-key = record { answers = refl; corrects = refl };
+      ring-distance = refl;
+      m2-key = record { answers = refl; corrects = refl };
+      m2-fits = refl;
+      m2-weight = refl;
+      m3-key = record { answers = refl; corrects = refl };
+      m3-fits = refl;
+      m3-weight = refl;
+      m3-winds = refl;
+      m4-key = record { answers = refl; corrects = refl };
+      m5-none = λ v. refl;
+      m6-key = record { answers = refl; corrects = refl };
+      m6-full = refl;
+      m7-key = record { answers = refl; corrects = refl };
+      m7-full = refl;
+      m8-key = record { answers = refl; corrects = refl };
+      m8-distance = refl;
+      m9-key = record { answers = refl; corrects = refl };
+      m9-none = λ v. refl;
+      m9-distance = refl;
+    }

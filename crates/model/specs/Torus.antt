@@ -1,0 +1,47 @@
+-- Document 01, "Distance and torus": the torus of side L (source document 000, section 1; numbering of document 01).
+-- Assumes nothing.
+use Prim.Native.Nat.{ℕ, _+_, _*_, _-_, _/_, _%_}
+use mathlib.Core.Bool.{cond}
+use mathlib.Core.List.{List}
+use lib.Dec.{eqb}
+use Rattle.model.specs.Sums.{values}
+use Rattle.model.specs.Board.{Board}
+
+-- Vertex (r, c) is r × L + c: its row and its column.
+abbrev pub row : ℕ → ℕ → ℕ
+row L v = v / L
+
+abbrev pub column : ℕ → ℕ → ℕ
+column L v = v % L
+
+-- Edges 2v and 2v + 1 belong to vertex v. The first goes to (r, c+1), the second to (r+1, c), modulo L.
+abbrev pub rightOf : ℕ → ℕ → ℕ
+rightOf L v = row L v * L + (column L v + 1) % L
+
+abbrev pub below : ℕ → ℕ → ℕ
+below L v = (row L v + 1) % L * L + column L v
+
+abbrev pub torusFrom : ℕ → ℕ
+torusFrom e = e / 2
+
+abbrev pub torusTo : ℕ → ℕ → ℕ
+torusTo L e = cond (eqb (e % 2) 0) (rightOf L (e / 2)) (below L (e / 2))
+
+-- The first kind has mark 1 where c = L - 1, the second mark 2 where r = L - 1, others 0.
+abbrev pub torusMark : ℕ → ℕ → ℕ
+torusMark L e =
+    cond (eqb (e % 2) 0) (cond (eqb (column L (e / 2)) (L - 1)) 1 0) (cond (eqb (row L (e / 2)) (L - 1)) 2 0)
+
+-- entry i of the ends: both ends of edge i / 2, one after the other
+abbrev pub torusEnd : ℕ → ℕ → ℕ
+torusEnd L i = cond (eqb (i % 2) 0) (torusFrom (i / 2)) (torusTo L (i / 2))
+
+-- exactly 4L² ends and 2L² marks
+unfoldable pub torusEnds : ℕ → List ℕ
+torusEnds L = values (4 * (L * L)) (torusEnd L)
+
+unfoldable pub torusMarks : ℕ → List ℕ
+torusMarks L = values (2 * (L * L)) (torusMark L)
+
+unfoldable pub torus : ℕ → Board
+torus L = record { vertices = L * L; ends = torusEnds L; marks = torusMarks L }

@@ -1,0 +1,41 @@
+use crate::numbers::Vertex;
+use crate::refusal::Refusal;
+
+// What decoding answers: the growth count and the number of correction edges, or a refusal.
+pub enum Decoded {
+    Key { growths: usize, edges: usize },
+    Refused(Refusal),
+}
+
+// What the verdict on a handed-in set answers: off with a vertex, same, wound with a mark value, or decoding's own refusal.
+pub enum Verdict {
+    Off(Vertex),
+    Same,
+    Wound(u8),
+    Refused(Refusal),
+}
+
+// What the distance answers: the fewest edges of a winding loop, nothing where there is none, or a refusal.
+pub enum Distance {
+    Fewest(usize),
+    Nothing,
+    Refused(Refusal),
+}
+
+// What the torus builder answers: the vertex count, or a refusal.
+pub enum Built {
+    Vertices(usize),
+    Refused(Refusal),
+}
+
+// What the reader of a text answers: both counts, or a refusal.
+pub enum Reading {
+    Counts { vertices: usize, edges: usize },
+    Refused(Refusal),
+}
+
+// What the writer of a text answers: the byte count, or a refusal.
+pub enum Written {
+    Bytes(usize),
+    Refused(Refusal),
+}
