@@ -1,0 +1,38 @@
+-- What decoding writes where there is a correction: it lies in the forest of the full edges, and has the syndrome put.
+-- Assumes nothing.
+use mathlib.Core.Path.{_≡_}
+use mathlib.Core.Bool.{false}
+use Rattle.model.specs.Sums.{ones}
+use Rattle.model.specs.Board.{Sheet}
+use Rattle.model.specs.Syndrome.{HasSyndrome}
+use Rattle.model.specs.Growth.{full, clusters}
+use Rattle.model.specs.Forest.{forest}
+use Rattle.model.specs.Decoding.{noCorrection, growths, supports, corrected}
+use Rattle.theory.proofs.GrowthRun.{Reached, NoneOdd, grown-ends}
+use Rattle.theory.proofs.Syndromes.{InRange}
+use Rattle.theory.proofs.Forests.{Within, forest-inside}
+use Rattle.theory.proofs.Corrections.{correction-in-forest, correction-has-syndrome}
+use Rattle.theory.proofs.GrowthBound.{growth-ends}
+
+-- the key is reached by growths of odd clusters
+pub key-reached : (X : Sheet) → Reached (X .board) (ones (X .syndrome)) (ones (X .loss)) (supports X) (growths X)
+unfolding supports growths
+key-reached X = grown-ends (X .board) (ones (X .syndrome)) (ones (X .loss)) .reached
+
+pub corrected-in-forest : (X : Sheet) → Within (X .board) (corrected X) (forest (X .board) (full (supports X)))
+unfolding corrected
+corrected-in-forest X = correction-in-forest (X .board) (full (supports X)) (ones (X .syndrome))
+
+pub corrected-full : (X : Sheet) → Within (X .board) (corrected X) (full (supports X))
+corrected-full X = record { holds = λ e h p. forest-inside (X .board) (full (supports X)) e (corrected-in-forest X .holds e h p) }
+
+-- no cluster is odd in the end
+pub key-even : (X : Sheet) → InRange (X .board) → noCorrection (X .board) (ones (X .syndrome)) ≡ false
+    → NoneOdd (X .board) (clusters (X .board) (supports X)) (ones (X .syndrome))
+unfolding supports
+key-even X r p = growth-ends (X .board) r (ones (X .syndrome)) (ones (X .loss)) p
+
+pub corrected-has-syndrome : (X : Sheet) → InRange (X .board) → noCorrection (X .board) (ones (X .syndrome)) ≡ false
+    → HasSyndrome (X .board) (corrected X) (ones (X .syndrome))
+unfolding corrected clusters
+corrected-has-syndrome X r p = correction-has-syndrome (X .board) r (full (supports X)) (ones (X .syndrome)) (key-even X r p)

@@ -1,0 +1,109 @@
+-- Demand 3 whole, over decoding's own result: "no correction" exactly when no set of edges has the syndrome; otherwise the correction
+-- has it, and for every set that has it the growths are few and the correction does not wind with it where every winding loop is large.
+-- Assumes nothing.
+use Prim.Native.Nat.{ℕ, _<_}
+use mathlib.Core.Path.{_≡_, refl, sym, ap, _∙_}
+use mathlib.Core.Bool.{Bool, true, false, cond}
+use mathlib.Core.List.{List}
+use mathlib.Core.Option.{none}
+use Rattle.model.specs.declared.refusal.Refusal.{Refusal}
+use Rattle.model.specs.declared.refusal.Refusal.the-variants.{NoCorrection}
+use Rattle.model.specs.declared.answers.Decoded.{Decoded}
+use Rattle.model.specs.declared.answers.Decoded.the-variants.{Key, Refused}
+use Rattle.model.specs.Sums.{Set, ones, bytes}
+use Rattle.model.specs.Board.{Board, Sheet, ValidSheet, edges}
+use Rattle.model.specs.Syndrome.{HasSyndrome}
+use Rattle.model.specs.Winding.{size}
+use Rattle.model.specs.Growth.{full}
+use Rattle.model.specs.Decoding.{noCorrection, growths, supports, corrected}
+use Rattle.model.specs.Refusals.{decodeRefusal}
+use Rattle.model.specs.Outcomes.{noneAt, answer, decodeAnswer, keyOr, Decodes}
+use Rattle.model.specs.Demand3.{Bounded, Unmet, Demand3}
+use Rattle.model.proofs.Contradiction.{zero-one}
+use Rattle.model.proofs.ListLaws.{ones-bytes}
+use Rattle.theory.proofs.GrowthRun.{Reached}
+use Rattle.theory.proofs.Syndromes.{InRange, valid-in-range, has-syndrome-cong}
+use Rattle.theory.proofs.Forests.{Within}
+use Rattle.theory.proofs.NoCorrection.{no-correction-exactly}
+use Rattle.theory.proofs.GrowthBound.{growth-bound}
+use Rattle.theory.proofs.NotWinding.{not-winding}
+use Rattle.theory.proofs.Decodings.{key-reached, corrected-full, corrected-has-syndrome}
+
+-- the bounds, for any correction in the full edges that growths of odd clusters reached
+pub reached-bounded : (B : Board) → InRange B → (S lost C : Set) {s : List ℕ} {g : ℕ} → Reached B S lost s g → Within B C (full s)
+    → HasSyndrome B C S
+    → (E : Set) → HasSyndrome B E S → Bounded B lost C g E
+reached-bounded B r S lost C c sub has E hasE =
+    record { few-growths = growth-bound B r S lost E hasE c; unwound = not-winding B r S lost E C hasE has c sub }
+
+-- an answer is a key or a refusal, not both
+key-or-refused : {A : Type 0} (r : Decoded) (g k : ℕ) (n : Refusal) → r ≡ Key g k → r ≡ Refused n → A
+key-or-refused r g k n p q = zero-one (cc)
+
+-- the demand of an answer "no correction", and of a key
+refused-demand : (B : Board) (S lost : Set) (r : Decoded) (C : Set) (shown : ℕ) → r ≡ Refused (noneAt shown) → Unmet B S
+    → Demand3 B S lost r C
+refused-demand B S lost r C shown refused unmet =
+    record {
+      none-exactly = (λ a. unmet, λ u. record { vertex = record { 0 = shown }; answer = refused });
+      met = λ g k q. key-or-refused r g k (noneAt shown) q refused;
+      bounded = λ g k q. key-or-refused r g k (noneAt shown) q refused;
+    }
+
+key-demand : (B : Board) (S lost : Set) (r : Decoded) (C : Set) (g k : ℕ) → r ≡ Key g k → HasSyndrome B C S
+    → ((E : Set) → HasSyndrome B E S → Bounded B lost C g E) → Demand3 B S lost r C
+key-demand B S lost r C g k key has each =
+    record {
+      none-exactly = (λ a. key-or-refused r g k (NoCorrection (a .vertex)) key (a .answer), λ unmet. absurd (unmet C has));
+      met = λ h j q. has;
+      bounded = λ h j q E hasE. let same : g ≡ h = cc in rw (sym same) (each E hasE);
+    }
+
+-- decoding's answer once its tests are passed, with the vertex that number 10 shows
+abbrev pub keyOrNone : Sheet → ℕ → Decoded
+keyOrNone X shown =
+    cond (noCorrection (X .board) (ones (X .syndrome))) (Refused (noneAt shown)) (Key (growths X) (size (X .board) (corrected X)))
+
+-- C is the correction on the board's edges, where there is one
+pub record IsCorrection (X : Sheet) (C : Set) : Type 0 where
+  pub at : noCorrection (X .board) (ones (X .syndrome)) ≡ false → (e : ℕ) → e < edges (X .board) → C e ≡ corrected X e
+
+-- Demand 3.
+pub demand3 : (X : Sheet) → ValidSheet X → (shown : ℕ) (r : Decoded) (C : Set) → r ≡ keyOrNone X shown → IsCorrection X C
+    → Demand3 (X .board) (ones (X .syndrome)) (ones (X .loss)) r C
+demand3 X valid shown r C result is = go (noCorrection (X .board) (ones (X .syndrome))) refl
+  where
+    range : InRange (X .board)
+    range = valid-in-range (valid .board)
+
+    go : (t : Bool) → noCorrection (X .board) (ones (X .syndrome)) ≡ t → Demand3 (X .board) (ones (X .syndrome)) (ones (X .loss)) r C
+    go true p =
+        refused-demand (X .board) (ones (X .syndrome)) (ones (X .loss)) r C shown (result ∙ rw p)
+        (no-correction-exactly (X .board) range (ones (X .syndrome)) .0 p)
+    go false p =
+        key-demand (X .board) (ones (X .syndrome)) (ones (X .loss)) r C (growths X) (size (X .board) (corrected X)) (result ∙ rw p) has
+        (reached-bounded (X .board) range (ones (X .syndrome)) (ones (X .loss)) C (key-reached X) sub has)
+      where
+        has : HasSyndrome (X .board) C (ones (X .syndrome))
+        has = has-syndrome-cong (X .board) C (corrected X) (ones (X .syndrome)) (is .at p) (corrected-has-syndrome X range p)
+
+        sub : Within (X .board) C (full (supports X))
+        sub = record { holds = λ e h q. corrected-full X .holds e h (sym (is .at p e h) ∙ q) }
+
+-- Whatever meets decoding's outcome on a sheet that passes its tests meets demand 3, by its result and the correction bytes it leaves.
+pub decodes-demand3 : (X : Sheet) (support correction : List ℕ) (r : Decoded) (support′ correction′ : List ℕ) → ValidSheet X
+    → decodeRefusal X support correction ≡ none
+    → Decodes X support correction r support′ correction′ → Demand3 (X .board) (ones (X .syndrome)) (ones (X .loss)) r (ones correction′)
+unfolding decodeAnswer
+decodes-demand3 X support correction r support′ correction′ valid passed d =
+    demand3 X valid (d .shown) r (ones correction′) result
+    (record { at = λ p e h. ap (λ l. ones l e) (same p) ∙ ones-bytes (edges (X .board)) (corrected X) e h })
+  where
+    result : r ≡ keyOrNone X (d .shown)
+    result = d .result ∙ ap (λ t. answer t Refused (keyOrNone X (d .shown))) passed
+
+    key : noCorrection (X .board) (ones (X .syndrome)) ≡ false → r ≡ Key (growths X) (size (X .board) (corrected X))
+    key p = result ∙ rw p
+
+    same : noCorrection (X .board) (ones (X .syndrome)) ≡ false → correction′ ≡ bytes (edges (X .board)) (corrected X)
+    same p = d .correction-bytes ∙ ap (λ x. keyOr x (bytes (edges (X .board)) (corrected X)) correction) (key p)

@@ -1,0 +1,176 @@
+-- How long growth lasts: each growth gives a half-edge to some kept edge of every set that has the syndrome, so there are at most twice as
+-- many growths as kept edges, and at the end no cluster is odd.
+-- Assumes nothing.
+use Prim.Native.Nat.{ℕ, zero, suc, _+_, _*_, _≤_, _<_}
+use mathlib.Core.Path.{_≡_, refl, sym, ap, _∙_, subst}
+use mathlib.Core.Bool.{Bool, true, false, cond, not, _&&_, true≢false}
+use mathlib.Core.Logic.{⊎-elim}
+use mathlib.Core.List.{List}
+use native.Mathlib.Nat.{le-refl, not-suc-le-zero}
+use native.Mathlib.Omega.{arith}
+use borrow.Author.Tests.{eqb-false}
+use lib.ListN.{getD}
+use lib.Dec.{eqb}
+use Rattle.model.specs.Sums.{Set, _⊕_, bit, countUpTo}
+use Rattle.model.specs.Board.{Board, edges, firstEnd, secondEnd}
+use Rattle.model.specs.Syndrome.{HasSyndrome}
+use Rattle.model.specs.Winding.{size}
+use Rattle.model.specs.Components.{within}
+use Rattle.model.specs.Growth.{full, clusters, odd, grow, grown}
+use Rattle.model.specs.Correction.{correction}
+use Rattle.model.specs.Decoding.{noCorrection}
+use Rattle.model.specs.Demand3.{keptEdges}
+use Rattle.model.proofs.Xor.{equal-xor, not-true-false, and-left, and-right, and-both}
+use Rattle.model.proofs.SumLaws.{below-suc, count-bound, Some}
+use Rattle.theory.proofs.Parity.{odd-found}
+use Rattle.theory.proofs.Sums.{sumUpTo, sum-mono}
+use Rattle.theory.proofs.GrowthRun.{OddPart, NoneOdd, Reached, begin, after, grown-ends}
+use Rattle.theory.proofs.Syndromes.{InRange, cut-syndrome}
+use Rattle.theory.proofs.Connected.{along}
+use Rattle.theory.proofs.Components.{connected-part}
+use Rattle.theory.proofs.NoCorrection.{some-correction}
+use Rattle.theory.proofs.Supports.{Supports, reached-supports, grow-at, grow-keeps}
+
+-- Sums
+
+-- no smaller anywhere and greater at a: greater in all
+sum-less : (n : ℕ) (f g : ℕ → ℕ) (a : ℕ) → a < n → ((i : ℕ) → i < n → f i ≤ g i) → f a < g a → sumUpTo n f < sumUpTo n g
+unfolding sumUpTo
+sum-less zero f g a h all more = absurd (not-suc-le-zero h)
+sum-less (suc n) f g a h all more =
+    below-suc n a h
+    (λ l. omega (arith, sum-less n f g a l (λ i u. all i (omega arith)) more, all n (le-refl _)))
+    (λ q. omega (arith, sum-mono n f g (λ i u. all i (omega arith)), subst (λ i. f i < g i) q more))
+
+-- what pays for f and for each of g, at two for each of h
+sum-pays : (n : ℕ) (f : ℕ → ℕ) (g h : Set) → ((i : ℕ) → i < n → f i + bit (g i) ≤ 2 * bit (h i))
+    → sumUpTo n f + countUpTo n g ≤ 2 * countUpTo n h
+unfolding sumUpTo countUpTo
+sum-pays zero f g h all = omega arith
+sum-pays (suc n) f g h all = omega (arith, sum-pays n f g h (λ i u. all i (omega arith)), all n (le-refl _))
+
+-- Progress
+
+-- E's kept edges
+abbrev kept : Set → Set → Set
+kept lost E e = E e && not (lost e)
+
+-- the half-edges that E's kept edges have
+paid : Board → Set → Set → List ℕ → ℕ
+paid B lost E s = sumUpTo (edges B) (λ e. cond (kept lost E e) (getD s e 0) 0)
+
+-- an odd cluster is left by some edge of E, which is not full
+crossing-edge : (B : Board) → InRange B → (S E : Set) → HasSyndrome B E S → (s : List ℕ) (a : ℕ) → OddPart B (clusters B s) S a
+    → Some (edges B) (λ e. E e && (within (clusters B s) a (firstEnd B e) ⊕ within (clusters B s) a (secondEnd B e)))
+unfolding odd
+crossing-edge B r S E has s a o =
+    odd-found (edges B) (λ e. E e && (within (clusters B s) a (firstEnd B e) ⊕ within (clusters B s) a (secondEnd B e)))
+    (sym (cut-syndrome B r (within (clusters B s) a) E S has) ∙ o .is-odd)
+
+crossing-open : (B : Board) (s : List ℕ) (a e : ℕ) → e < edges B
+    → (within (clusters B s) a (firstEnd B e) ⊕ within (clusters B s) a (secondEnd B e)) ≡ true → full s e ≡ false
+unfolding clusters
+crossing-open B s a e h p =
+    not-true-false (full s e) (λ q. true≢false (sym p ∙ equal-xor _ _ (ap (λ x. eqb x a) (connected-part B (full s) (along e h q)))))
+
+-- so a growth of an odd cluster raises what E's kept edges have
+paid-rises : (B : Board) → InRange B → (S lost E : Set) → HasSyndrome B E S → (s : List ℕ) → Supports B lost s → (a : ℕ)
+    → OddPart B (clusters B s) S a
+    → paid B lost E s < paid B lost E (grow B s (clusters B s) a)
+unfolding paid
+paid-rises B r S lost E has s w a o =
+    sum-less (edges B) (λ e. cond (kept lost E e) (getD s e 0) 0) (λ e. cond (kept lost E e) (getD (grow B s (clusters B s) a) e 0) 0)
+    (x .at) (x .less) (λ e h. each e h (kept lost E e)) more
+  where
+    x : Some (edges B) (λ e. E e && (within (clusters B s) a (firstEnd B e) ⊕ within (clusters B s) a (secondEnd B e)))
+    x = crossing-edge B r S E has s a o
+
+    e : ℕ
+    e = x .at
+
+    each : (e : ℕ) → e < edges B → (t : Bool) → cond t (getD s e 0) 0 ≤ cond t (getD (grow B s (clusters B s) a) e 0) 0
+    each e h true = grow-keeps B lost s (clusters B s) a w e h
+    each e h false = le-refl _
+
+    across : (within (clusters B s) a (firstEnd B e) ⊕ within (clusters B s) a (secondEnd B e)) ≡ true
+    across = and-right (E e) _ (x .holds)
+
+    open-edge : full s e ≡ false
+    open-edge = crossing-open B s a e (x .less) across
+
+    here : kept lost E e ≡ true
+    here = and-both _ _ (and-left (E e) _ (x .holds))
+        (ap not (not-true-false (lost e) (λ q. true≢false (sym (w .lost-full e (x .less) q) ∙ open-edge))))
+
+    one-end : (p q : Bool) → p ⊕ q ≡ true → bit p + bit q ≡ 1
+    one-end true true p = absurd (true≢false (sym p))
+    one-end true false p = refl
+    one-end false true p = refl
+    one-end false false p = absurd (true≢false (sym p))
+
+    more : cond (kept lost E e) (getD s e 0) 0 < cond (kept lost E e) (getD (grow B s (clusters B s) a) e 0) 0
+    more =
+        rw here (omega (
+          arith,
+          grow-at B s (clusters B s) a e (x .less),
+          w .bounded e (x .less),
+          eqb-false (getD s e 0) 2 open-edge,
+          one-end (within (clusters B s) a (firstEnd B e)) (within (clusters B s) a (secondEnd B e)) across,
+        ))
+
+-- The bounds
+
+module _ (B : Board) (r : InRange B) (S lost E : Set) (has : HasSyndrome B E S) where
+  -- after g growths E's kept edges have at least g half-edges
+  paid-enough : {s : List ℕ} {g : ℕ} → Reached B S lost s g → g ≤ paid B lost E s
+  paid-enough begin = omega arith
+  paid-enough (after {s} {g} {a} c o) = omega (arith, paid-enough c, paid-rises B r S lost E has s (reached-supports B S lost c) a o)
+
+  -- the growths, and one for each edge of E that is not full, are at most two for each kept edge of E
+  pub growth-slack : {s : List ℕ} {g : ℕ} → Reached B S lost s g → g + size B (λ e. E e && not (full s e)) ≤ 2 * keptEdges B lost E
+  unfolding paid
+  growth-slack {s} {g} c =
+      omega (
+        arith,
+        paid-enough c,
+        sum-pays (edges B) (λ e. cond (kept lost E e) (getD s e 0) 0) (λ e. E e && not (full s e)) (kept lost E)
+            (λ e h. each e h (E e) (lost e) (full s e) refl refl),
+      )
+    where
+      w : Supports B lost s
+      w = reached-supports B S lost c
+
+      each : (e : ℕ) → e < edges B → (x y z : Bool) → lost e ≡ y → full s e ≡ z
+          → cond (x && not y) (getD s e 0) 0 + bit (x && not z) ≤ 2 * bit (x && not y)
+      each e h false y z p q = omega arith
+      each e h true true true p q = omega arith
+      each e h true true false p q = absurd (true≢false (sym (w .lost-full e h p) ∙ q))
+      each e h true false true p q = omega (arith, w .bounded e h)
+      each e h true false false p q = omega (arith, w .bounded e h, eqb-false (getD s e 0) 2 q)
+
+  pub growth-bound : {s : List ℕ} {g : ℕ} → Reached B S lost s g → g ≤ 2 * keptEdges B lost E
+  growth-bound c = omega (arith, growth-slack c)
+
+-- Where there is a correction, growth ends
+
+module _ (B : Board) (r : InRange B) (S lost : Set) (some-set : noCorrection B S ≡ false) where
+  -- at most two growths for each edge
+  pub growth-limit : {s : List ℕ} {g : ℕ} → Reached B S lost s g → g ≤ 2 * edges B
+  growth-limit c =
+      let E = correction B (λ e. true) S in
+      omega (arith, growth-bound B r S lost E (some-correction B r S some-set) c, count-bound (edges B) (kept lost E))
+
+  -- while a cluster is odd there are fewer
+  pub growth-left : {s : List ℕ} {g a : ℕ} → Reached B S lost s g → OddPart B (clusters B s) S a → g < 2 * edges B
+  growth-left c o = growth-limit (after c o)
+
+  -- no cluster is odd at the end, whether the steps were used up or not
+  pub growth-ends : NoneOdd B (clusters B (grown B S lost .support)) S
+  growth-ends = ⊎-elim spent (λ even. even) (grown-ends B S lost .settled)
+    where
+      spent : grown B S lost .growths ≡ 0 + 2 * edges B → NoneOdd B (clusters B (grown B S lost .support)) S
+      spent p =
+          record {
+            even = λ a h. not-true-false (odd B (clusters B (grown B S lost .support)) S a)
+                (λ q. absurd (omega (arith, p, growth-left (grown-ends B S lost .reached) (record { below = h; is-odd = q }))));
+          }

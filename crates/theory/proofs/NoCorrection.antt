@@ -1,0 +1,74 @@
+-- There is no correction exactly when no set of the board's edges has the syndrome.
+-- Assumes nothing.
+use Prim.Native.Nat.{ℕ, _<_}
+use mathlib.Core.Path.{_≡_, refl, sym, ap, _∙_, subst}
+use mathlib.Core.Bool.{Bool, true, false, _&&_, and-false, true≢false}
+use mathlib.Core.Logic.{_↔_}
+use borrow.Author.Tests.{eqb-true, eqb-false, ne-eqb}
+use lib.Dec.{eqb}
+use Rattle.model.specs.Sums.{Set, _⊕_}
+use Rattle.model.specs.Board.{Board, edges, firstEnd, secondEnd}
+use Rattle.model.specs.Syndrome.{HasSyndrome}
+use Rattle.model.specs.Components.{label, labels, within}
+use Rattle.model.specs.Growth.{odd}
+use Rattle.model.specs.Correction.{correction}
+use Rattle.model.specs.Decoding.{parts, inOddPart, noCorrection}
+use Rattle.model.specs.Demand3.{Unmet}
+use Rattle.model.proofs.Xor.{xor-self, not-false-true}
+use Rattle.model.proofs.SumLaws.{odd-none, some-found, some-none}
+use Rattle.theory.proofs.GrowthRun.{NoneOdd}
+use Rattle.theory.proofs.Syndromes.{InRange, cut-syndrome}
+use Rattle.theory.proofs.Connected.{along}
+use Rattle.theory.proofs.Components.{connected-part, part-own}
+use Rattle.theory.proofs.Corrections.{correction-has-syndrome}
+
+-- A set with the syndrome, made of edges of F only, leaves no part of F odd: none of its edges crosses a part.
+pub part-even : (B : Board) → InRange B → (F E S : Set) → ((e : ℕ) → e < edges B → E e ≡ true → F e ≡ true) → HasSyndrome B E S → (a : ℕ)
+    → odd B (labels B F) S a ≡ false
+unfolding odd
+part-even B r F E S sub has a =
+    cut-syndrome B r (within (labels B F) a) E S has
+    ∙ odd-none (edges B) (λ e. E e && (within (labels B F) a (firstEnd B e) ⊕ within (labels B F) a (secondEnd B e)))
+    (λ e h. go e h (E e) refl)
+  where
+    go : (e : ℕ) → e < edges B → (t : Bool) → E e ≡ t
+        → (E e && (within (labels B F) a (firstEnd B e) ⊕ within (labels B F) a (secondEnd B e))) ≡ false
+    go e h true p = rw (p, connected-part B F (along e h (sub e h p))) (xor-self (within (labels B F) a (secondEnd B e)))
+    go e h false p = rw p
+
+-- where the part of every vertex is even, no part is odd: a number that labels no vertex has none
+pub even-parts : (B : Board) → InRange B → (F S : Set) → ((v : ℕ) → v < B .vertices → odd B (labels B F) S (label (labels B F) v) ≡ false)
+    → NoneOdd B (labels B F) S
+unfolding odd
+even-parts B r F S each = record { even = λ a h. go a h (eqb (label (labels B F) a) a) refl }
+  where
+    unused : (a : ℕ) → (label (labels B F) a ≡ a → ⊥) → (v : ℕ) → v < B .vertices → (S v && within (labels B F) a v) ≡ false
+    unused a foreign v h =
+        ap (λ t. S v && t) (ne-eqb (label (labels B F) v) a (λ q. foreign (subst (λ x. label (labels B F) x ≡ x) q (part-own B F r v h))))
+        ∙ and-false (S v)
+
+    go : (a : ℕ) → a < B .vertices → (t : Bool) → eqb (label (labels B F) a) a ≡ t → odd B (labels B F) S a ≡ false
+    go a h true p = subst (λ x. odd B (labels B F) S x ≡ false) (eqb-true _ _ p) (each a h)
+    go a h false p = odd-none (B .vertices) (λ v. S v && within (labels B F) a v) (unused a (eqb-false _ _ p))
+
+-- Theorem: no correction
+
+-- where a part of the whole board is odd, no set has the syndrome
+pub no-correction-unmet : (B : Board) → InRange B → (S : Set) → noCorrection B S ≡ true → Unmet B S
+unfolding noCorrection inOddPart parts
+no-correction-unmet B r S p E has =
+    let w = some-found (B .vertices) (inOddPart B S) p in
+    true≢false (sym (w .holds) ∙ part-even B r (λ e. true) E S (λ e h q. refl) has (label (parts B) (w .at)))
+
+-- otherwise one has it, a subset of the whole board's forest
+pub some-correction : (B : Board) → InRange B → (S : Set) → noCorrection B S ≡ false → HasSyndrome B (correction B (λ e. true) S) S
+unfolding noCorrection inOddPart parts
+some-correction B r S p =
+    correction-has-syndrome B r (λ e. true) S (even-parts B r (λ e. true) S (some-none (B .vertices) (inOddPart B S) p))
+
+pub no-correction-exactly : (B : Board) → InRange B → (S : Set) → (noCorrection B S ≡ true) ↔ Unmet B S
+no-correction-exactly B r S = (
+  no-correction-unmet B r S,
+  λ unmet. not-false-true (noCorrection B S)
+      (λ p. unmet (correction B (λ e. true) S) (some-correction B r S p)),
+)
