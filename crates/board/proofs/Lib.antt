@@ -1,0 +1,9 @@
+pub mod Searching
+pub mod Rows
+pub mod Passing
+pub mod Validity
+pub mod Calls
+pub mod Counting
+pub mod Slots
+pub mod Listing
+pub mod Sorting

@@ -1,0 +1,118 @@
+-- What passes the tests is valid and has its length, and the reverse. Assumes nothing.
+use Prim.Native.Nat.{ℕ, _%_, _≤_, _<_}
+use mathlib.Core.Path.{_≡_, refl}
+use mathlib.Core.Bool.{Bool, true, false, _&&_, _||_, true≢false}
+use mathlib.Core.Logic.{_≢_}
+use mathlib.Core.List.{List}
+use mathlib.Core.Option.{Option, none, some, Option·some-ne-none}
+use native.Mathlib.Omega.{arith}
+use borrow.Author.Tests.{leb-true, leb-false, ltb-false, eqb-true, eqb-false, le-leb, lt-leb, le-ltb, eq-eqb, ne-eqb}
+use lib.ListN.{length}
+use lib.Dec.{eqb, leb}
+use Rattle.model.specs.declared.refusal.Refusal.{Refusal}
+use Rattle.model.specs.declared.refusal.Refusal.the-variants.{VertexCount, EndCount, BufferLength, EndRange, EqualEnds, MarkRange}
+use Rattle.model.specs.Sums.{Set, firstUpTo}
+use Rattle.model.specs.Board.{Board, ValidBytes, edges, firstEnd, secondEnd, mark}
+use Rattle.model.specs.Refusals.{unless, refusedAt, firstPlace}
+use Rattle.model.proofs.Xor.{and-left, and-right, and-both}
+use Rattle.model.proofs.SumLaws.{first-none, none-first}
+use Rattle.board.specs.Rules.{outside, equalEnds, above, countTests, edgeTests}
+use Rattle.board.proofs.Rows.{Each}
+
+-- a test by a flag passes exactly where the flag is set
+pub unless-passes : (ok : Bool) (n : Refusal) → unless ok n ≡ none → ok ≡ true
+unless-passes true n p = refl
+unless-passes false n p = absurd (Option·some-ne-none n p)
+
+passes-unless : (ok : Bool) (n : Refusal) → ok ≡ true → unless ok n ≡ none
+passes-unless ok n p = rw p
+
+-- a test by a pass over n places passes exactly where none of them breaks the rule
+place-passes : (n : ℕ) (f : Set) (at : ℕ → Refusal) → firstPlace n f at ≡ none → (i : ℕ) → i < n → f i ≡ false
+place-passes n f at p = none-first n f (nowhere (firstUpTo n f) p)
+  where
+    nowhere : (o : Option ℕ) → refusedAt o at ≡ none → o ≡ none
+    nowhere none q = refl
+    nowhere (some i) q = absurd (Option·some-ne-none (at i) q)
+
+passes-place : (n : ℕ) (f : Set) (at : ℕ → Refusal) → ((i : ℕ) → i < n → f i ≡ false) → firstPlace n f at ≡ none
+passes-place n f at out = rw (first-none n f out)
+
+or-left : (a b : Bool) → (a || b) ≡ false → a ≡ false
+or-left true b p = p
+or-left false b p = refl
+
+or-right : (a b : Bool) → (a || b) ≡ false → b ≡ false
+or-right true b p = absurd (true≢false p)
+or-right false b p = p
+
+neither : (a b : Bool) → a ≡ false → b ≡ false → (a || b) ≡ false
+neither a b p q = rw (p, q)
+
+-- what the tests 1 to 3 say
+pub record Counted (vertices : ℕ) (ends : List ℕ) (fit : Bool) : Type 0 where
+  pub some-vertex : 1 ≤ vertices
+  pub vertex-limit : vertices ≤ 1024
+  pub even : length ends % 2 ≡ 0
+  pub end-limit : length ends ≤ 8192
+  pub others : fit ≡ true
+
+pub counts-say : (vertices : ℕ) (ends : List ℕ) (fit : Bool) → Each (countTests vertices ends fit) → Counted vertices ends fit
+counts-say vertices ends fit e =
+    let one = unless-passes (leb 1 vertices && leb vertices 1024) VertexCount (e .0) in
+    let two = unless-passes (eqb (length ends % 2) 0 && leb (length ends) 8192) EndCount (e .1 .0) in
+    record {
+      some-vertex = leb-true _ _ (and-left (leb 1 vertices) _ one);
+      vertex-limit = leb-true _ _ (and-right (leb 1 vertices) _ one);
+      even = eqb-true _ _ (and-left (eqb (length ends % 2) 0) _ two);
+      end-limit = leb-true _ _ (and-right (eqb (length ends % 2) 0) _ two);
+      others = unless-passes fit BufferLength (e .1 .1 .0);
+    }
+
+pub say-counts : (vertices : ℕ) (ends : List ℕ) (fit : Bool) → Counted vertices ends fit → Each (countTests vertices ends fit)
+say-counts vertices ends fit k = (
+  passes-unless _ VertexCount (and-both _ _ (le-leb _ _ (k .some-vertex)) (le-leb _ _ (k .vertex-limit))),
+  (
+    passes-unless _ EndCount (and-both _ _ (eq-eqb _ _ (k .even)) (le-leb _ _ (k .end-limit))),
+    (passes-unless fit BufferLength (k .others), tt),
+  ),
+)
+
+-- what the tests 4 to 6 say
+pub record Edged (B : Board) : Type 0 where
+  pub first-in-range : (e : ℕ) → e < edges B → firstEnd B e < B .vertices
+  pub second-in-range : (e : ℕ) → e < edges B → secondEnd B e < B .vertices
+  pub ends-differ : (e : ℕ) → e < edges B → firstEnd B e ≢ secondEnd B e
+  pub mark-in-range : (e : ℕ) → e < edges B → mark B e ≤ 3
+
+pub edges-say : (B : Board) → Each (edgeTests B) → Edged B
+edges-say B t =
+    let inside = place-passes (edges B) (outside (B .vertices) (B .ends)) (λ e. EndRange (record { 0 = e })) (t .0) in
+    let differ = place-passes (edges B) (equalEnds (B .ends)) (λ e. EqualEnds (record { 0 = e })) (t .1 .0) in
+    let small = place-passes (edges B) (above 3 (B .marks)) (λ e. MarkRange (record { 0 = e })) (t .1 .1 .0) in
+    record {
+      first-in-range = λ e h. leb-false _ _ (or-left (leb (B .vertices) (firstEnd B e)) _ (inside e h));
+      second-in-range = λ e h. leb-false _ _ (or-right (leb (B .vertices) (firstEnd B e)) _ (inside e h));
+      ends-differ = λ e h. eqb-false _ _ (differ e h);
+      mark-in-range = λ e h. ltb-false _ _ (small e h);
+    }
+
+pub say-edges : (B : Board) → Edged B → Each (edgeTests B)
+say-edges B k = (
+  passes-place (edges B) (outside (B .vertices) (B .ends)) _ (λ e h. neither _ _ (lt-leb _ _ (k .first-in-range e h)) (lt-leb _ _ (k .second-in-range e h))),
+  (
+    passes-place (edges B) (equalEnds (B .ends)) _ (λ e h. ne-eqb _ _ (k .ends-differ e h)),
+    (passes-place (edges B) (above 3 (B .marks)) _ (λ e h. le-ltb _ _ (k .mark-in-range e h)), tt),
+  ),
+)
+
+-- what the tests 7, 8 and 9 say of their bytes
+pub bytes-say : (n : ℕ) (l : List ℕ) (at : ℕ → Refusal) → length l ≡ n → firstPlace (length l) (above 1 l) at ≡ none → ValidBytes n l
+bytes-say n l at long p =
+    record {
+      count = long;
+      each = λ i h. ltb-false _ _ (place-passes (length l) (above 1 l) at p i (omega arith));
+    }
+
+pub say-bytes : (n : ℕ) (l : List ℕ) (at : ℕ → Refusal) → ValidBytes n l → firstPlace (length l) (above 1 l) at ≡ none
+say-bytes n l at k = passes-place (length l) (above 1 l) at (λ i h. le-ltb _ _ (k .each i (omega (arith, k .count))))
