@@ -1,0 +1,5 @@
+pub mod Rooting
+pub mod Connecting
+pub mod Flipping
+pub mod Marking
+pub mod Answers

@@ -1,0 +1,69 @@
+-- `parts::first_marked` meets its contract. The loop's invariant: no vertex before `v` has a marked root. Assumes nothing.
+use Prim.Native.Nat.{_≤_, _-_}
+use borrow.Author.Needs.{needs}
+use borrow.Author.Tests.{eq-eqb, ne-eqb}
+use Rattle.board.proofs.Searching.{Passed, passed-none, passed-more, ends-at, ends-nowhere}
+use Rattle.parts.specs.Parity.{marked}
+use Rattle.parts.proofs.Rooting.{root-limited}
+use Rattle.parts.proofs.first_marked.Statement.{statement}
+use Rattle.parts.proofs.first_marked.Tie as tie
+
+abbrev Inv-loop : tie.InvT-loop
+Inv-loop vertices parent odd v₀ v = (v ≤ vertices) × Passed (marked parent odd) v
+
+abbrev μ-loop : tie.MeasureT-loop
+μ-loop vertices parent odd v₀ v = vertices - v
+
+loop-holds : tie.Need-loop-holds Inv-loop μ-loop
+loop-holds c = (search needs, passed-none _)
+
+cast-vertex : tie.Need-cast-vertex Inv-loop μ-loop
+cast-vertex c = search needs
+
+root-of-requires : tie.Need-root-of-requires Inv-loop μ-loop
+root-of-requires c κs = search needs
+
+cast-if1 : tie.Need-cast-if1 Inv-loop μ-loop
+cast-if1 c = search needs
+
+element-copy-out-if1 : tie.Need-element-copy-out-if1 Inv-loop μ-loop
+element-copy-out-if1 c =
+    let turn = c .before .before in
+    root-limited (turn .before .before .pre .rooted) (turn .loop-test .taken) (c .before .root-of .ensures)
+
+returns : tie.Need-returns Inv-loop μ-loop
+returns c = ends-at _ (c .before .before .before .before .before .loop .inv .1) (search needs)
+    (rw (← c .before .before .before .root-of .ensures) (eq-eqb _ _ (c .if1 .taken)))
+
+add-v : tie.Need-add-v Inv-loop μ-loop
+add-v c = search needs
+
+loop-less : tie.Need-loop-less Inv-loop μ-loop
+loop-less c = search needs
+
+loop-again : tie.Need-loop-again Inv-loop μ-loop
+loop-again c = (
+  search needs,
+  passed-more (c .before .before .before .before .before .loop .inv .1)
+      (rw (← c .before .before .before .root-of .ensures) (ne-eqb _ _ (c .if1 .left))),
+)
+
+returns-2 : tie.Need-returns-2 Inv-loop μ-loop
+returns-2 c = ends-nowhere _ (c .before .loop .inv .1) (c .loop-test .left)
+
+pub first-marked-spec : {M : Type 1} → statement M
+first-marked-spec =
+    tie.close
+    (tie.spec
+    Inv-loop
+    μ-loop
+    loop-holds
+    cast-vertex
+    root-of-requires
+    cast-if1
+    element-copy-out-if1
+    returns
+    add-v
+    loop-less
+    loop-again
+    returns-2)

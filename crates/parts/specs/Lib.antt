@@ -1,0 +1,4 @@
+pub mod Lent
+pub mod Connection
+pub mod Parity
+pub mod Answer

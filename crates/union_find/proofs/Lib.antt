@@ -1,0 +1,10 @@
+pub mod Roots
+pub mod Moved
+pub mod Counts
+pub mod Hanging
+pub mod Cases
+pub mod Unions
+pub mod Compression
+pub mod Fresh
+pub mod Labels
+pub mod Subtrees
