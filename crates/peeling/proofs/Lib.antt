@@ -1,0 +1,5 @@
+pub mod FlipLaws
+pub mod SpanLaws
+pub mod CutLaws
+pub mod PeelLaws
+pub mod PeelLoop

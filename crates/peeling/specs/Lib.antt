@@ -1,0 +1,4 @@
+pub mod Flips
+pub mod Lent
+pub mod Links
+pub mod Peeling

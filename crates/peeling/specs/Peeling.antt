@@ -1,0 +1,67 @@
+-- What peeling does to an edge, and what it leaves: the correction. Internal: decoding's own contract says the same of its own result.
+-- Assumes nothing.
+use Prim.Native.Nat.{ℕ, _+_, _*_, _<_}
+use mathlib.Core.Path.{_≡_}
+use mathlib.Core.Logic.{_≢_}
+use mathlib.Core.Bool.{Bool, false, not, _&&_}
+use mathlib.Core.List.{List}
+use lib.ListN.{length, getD}
+use lib.Dec.{eqb}
+use Rattle.model.specs.Sums.{Set, _⊕_, bit, ones, bytes}
+use Rattle.model.specs.Board.{Board, boardOf, edges, edgeLimit}
+use Rattle.model.specs.Winding.{size}
+use Rattle.model.specs.Growth.{full, odd, clusters}
+use Rattle.model.specs.Correction.{correction}
+use Rattle.union_find.specs.Trees.{at, under}
+use Rattle.peeling.specs.Flips.{oddBelow, AllFlippable}
+use Rattle.peeling.specs.Lent.{Lent}
+use Rattle.peeling.specs.Links.{noVertex}
+
+-- edge e may be cut: its ends may flip, and its link, if it has one, is a vertex
+pub record Cuttable (ends parent links : List ℕ) (below : List Bool) (e : ℕ) : Type 0 where
+  pub vertices : ℕ
+  pub flippable : AllFlippable vertices parent below
+  pub edge : e < edgeLimit
+  pub ends-lent : 2 * e + 1 < length ends
+  pub first : getD ends (2 * e) 0 < vertices
+  pub second : getD ends (2 * e + 1) 0 < vertices
+  pub link : at links e ≢ noVertex → at links e < vertices
+
+-- edge e is cut for the correction: it has a link, and what hangs there is odd
+abbrev pub isCut : List ℕ → List Bool → ℕ → Bool
+isCut links below e = not (eqb (at links e) noVertex) && oddBelow below (at links e)
+
+-- an odd number of its two ends hangs at z or below
+abbrev pub endsUnder : List ℕ → List ℕ → ℕ → ℕ → Bool
+endsUnder ends parent e z = under parent z (getD ends (2 * e) 0) ⊕ under parent z (getD ends (2 * e + 1) 0)
+
+-- then its two ends flip
+pub record Cuts (ends parent links : List ℕ) (below : List Bool) (e r : ℕ) (below′ : List Bool) : Type 0 where
+  pub answer : r ≡ bit (isCut links below e)
+  pub same-length : length below′ ≡ length below
+  pub each : (z : ℕ) → at parent z ≢ z
+      → oddBelow below′ z ≡ oddBelow below z ⊕ (isCut links below e && endsUnder ends parent e z)
+
+-- what is lent, with a syndrome byte for each vertex and a correction byte for each edge
+pub record Peelable (vertices : ℕ) (ends support syndrome correction : List ℕ) : Type 0 where
+  pub lent : Lent vertices ends support
+  pub syndrome-bytes : length syndrome ≡ vertices
+  pub correction-bytes : length correction ≡ length support
+
+-- no cluster of the full edges is odd
+pub record NoOddCluster (B : Board) (support syndrome : List ℕ) : Type 0 where
+  pub even : (a : ℕ) → a < B .vertices → odd B (clusters B support) (ones syndrome) a ≡ false
+
+-- the correction on the board with these marks
+abbrev pub correctionOf : ℕ → List ℕ → List ℕ → List ℕ → List ℕ → Set
+correctionOf vertices ends support syndrome marks = correction (boardOf vertices ends marks) (full support) (ones syndrome)
+
+-- the set D as bytes, and its size
+pub record Writes (B : Board) (D : Set) (r : ℕ) (written : List ℕ) : Type 0 where
+  pub count : r ≡ size B D
+  pub bytes-are : written ≡ bytes (edges B) D
+
+-- Where no cluster is odd, the correction is written, and its size returned. The marks of the board don't matter.
+pub record Peels (vertices : ℕ) (ends support syndrome : List ℕ) (r : ℕ) (written : List ℕ) : Type 0 where
+  pub corrected : (marks : List ℕ) → length marks ≡ length support → NoOddCluster (boardOf vertices ends marks) support syndrome
+      → Writes (boardOf vertices ends marks) (correctionOf vertices ends support syndrome marks) r written

@@ -1,0 +1,35 @@
+// Parities below each vertex of a tree: how many flipped vertices, an odd or an even number, hang at it or below it.
+use model::limits::VERTICES;
+use model::numbers::Vertex;
+ghost use lib.ListN.{length};
+ghost use Rattle.model.specs.Sums.{ones};
+ghost use Rattle.peeling.specs.Flips.{Flippable, Flipped, AllFlippable, AllFlipped};
+
+// Vertex v flips: every vertex on the way from v up to its root has another parity below it. Nobody asks that of a root.
+pub fn flip(parent: &[u16; VERTICES], odd: &mut [bool; VERTICES], v: Vertex)
+    requires { ⌜ Flippable (now parent) (now odd) (v .0) ⌝ }
+    ensures { λ r. ⌜ Flipped (now (parent .entry)) (v .0) (now (odd .entry)) (now (odd .exit)) ⌝ }
+{
+    let mut w = v.0;
+    loop {
+        let up = parent[w as usize];
+        if up == w {
+            return;
+        }
+        odd[w as usize] = !odd[w as usize];
+        w = up;
+    }
+}
+
+// Every syndrome vertex flips.
+pub fn flip_syndrome(syndrome: &[u8], parent: &[u16; VERTICES], odd: &mut [bool; VERTICES])
+    requires { ⌜ AllFlippable (length (now syndrome)) (now parent) (now odd) ⌝ }
+    ensures { λ r. ⌜ AllFlipped (now (parent .entry)) (length (now (syndrome .entry))) (ones (now (syndrome .entry))) (now (odd .entry)) (now (odd .exit)) ⌝ }
+{
+    for v in 0..syndrome.len() {
+        if syndrome[v] == 1 {
+            let number = v as u16;
+            flip(parent, odd, Vertex(number));
+        }
+    }
+}
