@@ -1,0 +1,91 @@
+-- What the union-find's laws say of the book: finding changes no cluster, and fusing makes two of them one. Assumes nothing.
+use Prim.Native.Nat.{ℕ, _<_}
+use mathlib.Core.Path.{_≡_, refl, ap, _∙_, subst}
+use mathlib.Core.Bool.{_&&_, _||_}
+use mathlib.Core.List.{List}
+use native.Mathlib.Omega.{arith}
+use Rattle.model.specs.declared.numbers.Vertex.{Vertex}
+use Rattle.union_find.specs.declared.Joined.{Joined}
+use Rattle.union_find.specs.declared.Joined.the-variants.{Hung}
+use Rattle.union_find.specs.Trees.{at, rootOf, Compressed}
+use Rattle.union_find.specs.Joining.{joined, Joinable, Joins, sameRoot}
+use Rattle.union_find.proofs.Roots.{root-self, root-top, root-inside}
+use Rattle.union_find.proofs.Hanging.{hung-parent}
+use Rattle.union_find.proofs.Unions.{hung-is, joins-trees, joins-same}
+use Rattle.union_find.proofs.Compression.{compressed-trees, compressed-roots}
+use Rattle.decoder.specs.declared.book.Book.{Book}
+use Rattle.decoder.specs.declared.book.Found.{Found}
+use Rattle.decoder.specs.Books.{together, Kept, Finds, BothKept, Fuses}
+
+-- a path compressed, and the root at its end
+pub finds : (b : Book) (v : ℕ) (p : List ℕ) (root : Vertex) → Kept b v → Compressed (b .parent) p → root .0 ≡ rootOf (b .parent) v
+    → Finds b v (record { book = record { vertices = b .vertices; parent = p; size = b .size }; root = root })
+finds b v p root k w is =
+    record {
+      good = compressed-trees w (k .good);
+      vertices = refl;
+      sizes = refl;
+      roots = compressed-roots w (k .good .climbs);
+      root = is;
+    }
+
+module _ (b : Book) (x y : ℕ) (k : BothKept b x y) (f g : Found) (one : Finds b x f) (other : Finds (f .book) y g) where
+  same-count : g .book .vertices ≡ b .vertices
+  same-count = other .vertices ∙ one .vertices
+
+  same-sizes : g .book .size ≡ b .size
+  same-sizes = other .sizes ∙ one .sizes
+
+  same-roots : (u : ℕ) → u < b .vertices → rootOf (g .book .parent) u ≡ rootOf (b .parent) u
+  same-roots u h = other .roots u (omega (arith, one .vertices)) ∙ one .roots u h
+
+  first-root : f .root .0 ≡ rootOf (b .parent) x
+  first-root = one .root
+
+  second-root : g .root .0 ≡ rootOf (b .parent) y
+  second-root = other .root ∙ one .roots y (k .second)
+
+  pub first-inside : f .root .0 < g .book .vertices
+  first-inside = omega (arith, first-root, same-count, root-inside (k .good .climbs) x (k .first))
+
+  pub second-inside : g .root .0 < g .book .vertices
+  second-inside = omega (arith, second-root, same-count, root-inside (k .good .climbs) y (k .second))
+
+  pub roots-joinable : Joinable (g .book .parent) (g .book .size) (f .root .0) (g .root .0)
+  roots-joinable = record { count = g .book .vertices; trees = other .good; first = first-inside; second = second-inside }
+
+  -- a root is its own root
+  top : (v : ℕ) → v < b .vertices → rootOf (g .book .parent) (rootOf (b .parent) v) ≡ rootOf (b .parent) v
+  top v h = same-roots _ (root-inside (k .good .climbs) v h) ∙ root-self (b .parent) _ (root-top (k .good .climbs) v h)
+
+  top-first : rootOf (g .book .parent) (f .root .0) ≡ rootOf (b .parent) x
+  top-first = ap (rootOf (g .book .parent)) first-root ∙ top x (k .first)
+
+  top-second : rootOf (g .book .parent) (g .root .0) ≡ rootOf (b .parent) y
+  top-second = ap (rootOf (g .book .parent)) second-root ∙ top y (k .second)
+
+  module _ (j : Joined) (p s : List ℕ) (joins : Joins (g .book .parent) (g .book .size) (f .root .0) (g .root .0) j p s) where
+    fused-answer : j ≡ joined (b .parent) (b .size) x y
+    unfolding joined
+    fused-answer = joins .answer ∙ rw (top-first, top-second, same-sizes)
+
+    fused-hung : (child root : Vertex) → j ≡ Hung child root → at p (child .0) ≡ root .0
+    fused-hung child root q =
+        let w = hung-is (other .good) first-inside second-inside (subst (λ i. Joins (g .book .parent) (g .book .size) (f .root .0) (g .root .0) i p s) q joins) in
+        ap (λ l. at l (child .0)) (w .parents) ∙ hung-parent (other .good) (w .roots)
+
+    fused-one : (u v : ℕ) → u < b .vertices → v < b .vertices
+        → sameRoot p u v ≡ (together b u v || ((together b u x || together b u y) && (together b v x || together b v y)))
+    fused-one u v hu hv =
+        joins-same (other .good) first-inside second-inside joins u v (omega (arith, same-count)) (omega (arith, same-count))
+        ∙ rw (same-roots u hu, same-roots v hv, top-first, top-second)
+
+    pub fuses : Fuses b x y (record { book = record { vertices = g .book .vertices; parent = p; size = s }; joined = j })
+    fuses =
+        record {
+          good = joins-trees (other .good) first-inside second-inside joins;
+          vertices = same-count;
+          answer = fused-answer;
+          hung = fused-hung;
+          one = fused-one;
+        }

@@ -1,0 +1,69 @@
+-- The listed edges fused one after the other: the book is that of the parts by the edges it had and the listed edges passed.
+-- Assumes nothing.
+use Prim.Native.Nat.{ℕ, suc, _+_, _*_, _<_}
+use mathlib.Core.Path.{_≡_, refl, sym, _∙_}
+use mathlib.Core.Bool.{_&&_, _||_, or-false, or-assoc}
+use mathlib.Core.List.{List}
+use native.Mathlib.Nat.{le-refl}
+use native.Mathlib.Omega.{arith}
+use lib.ListN.{getD, length-replicate}
+use lib.Dec.{eqb}
+use Rattle.model.specs.Sums.{Set, someUpTo}
+use Rattle.model.specs.Components.{label}
+use Rattle.theory.proofs.Components.{labels-cong}
+use Rattle.union_find.specs.Joining.{sameRoot, Mirrors}
+use Rattle.decoder.specs.declared.book.Book.{Book}
+use Rattle.decoder.specs.declared.book.Fused.{Fused}
+use Rattle.decoder.specs.Lent.{unmarked}
+use Rattle.decoder.specs.Gains.{listed}
+use Rattle.decoder.specs.Books.{Good, BothKept, Fuses, withListed, Fusable, FusesListed}
+use Rattle.decoder.proofs.TreeLabelLaws.{lent-range}
+use Rattle.decoder.proofs.AddedEdge.{joinedBy, Adds, added-edge}
+
+pub fuse-none : (b : Book) (ends filled : List ℕ) → Good b → FusesListed b ends filled 0 b
+unfolding someUpTo
+fuse-none b ends filled good =
+    record {
+      vertices = refl;
+      good = good;
+      each = λ m F lent small mirrors. rw (labels-cong (unmarked (b .vertices) m ends) (withListed F 0 filled) F (λ e h. or-false (F e))) mirrors;
+    }
+
+-- what fusing says of roots, said of labels
+mirrored : {n : ℕ} {p l : List ℕ} → Mirrors n p l → (u v x y : ℕ) → u < n → v < n → x < n → y < n
+    → (sameRoot p u v || ((sameRoot p u x || sameRoot p u y) && (sameRoot p v x || sameRoot p v y))) ≡ joinedBy (label l x) (label l y) (label l u) (label l v)
+mirrored m u v x y hu hv hx hy = rw (m .same u v hu hv, m .same u x hu hx, m .same u y hu hy, m .same v x hv hx, m .same v y hv hy)
+
+module _ (b : Book) (ends filled : List ℕ) (k : ℕ) (now : Book) (w : FusesListed b ends filled k now) where
+  -- the next listed edge may be fused
+  pub next-kept : (count : ℕ) → k < count → Fusable b ends filled count → (x y : ℕ) → x ≡ getD ends (2 * getD filled k 0) 0 → y ≡ getD ends (2 * getD filled k 0 + 1) 0 → BothKept now x y
+  next-kept count h f x y p q =
+      record {
+        good = w .good;
+        first = omega (arith, w .vertices, f .lent .first (getD filled k 0) (f .listed k h));
+        second = omega (arith, w .vertices, f .lent .second (getD filled k 0) (f .listed k h));
+      }
+
+  -- the set with one more listed edge
+  adds : (m : ℕ) (F : Set) → getD filled k 0 < m → Adds (unmarked (b .vertices) m ends) (withListed F k filled) (getD filled k 0) (withListed F (suc k) filled)
+  unfolding someUpTo
+  adds m F h = record { edge = omega (arith, length-replicate {A = ℕ} m 0); each = λ i l. sym (or-assoc (F i) (listed k filled i) (eqb (getD filled k 0) i)) }
+
+  pub fuse-next : (x y : ℕ) (r : Fused) → x ≡ getD ends (2 * getD filled k 0) 0 → y ≡ getD ends (2 * getD filled k 0 + 1) 0 → Fuses now x y r → FusesListed b ends filled (suc k) (r .book)
+  fuse-next x y r p q f =
+      record {
+        vertices = f .vertices ∙ w .vertices;
+        good = f .good;
+        each = λ m F lent small mirrors.
+            let e = small k (le-refl _) in
+            let old = w .each m F lent (λ i h. small i (omega arith)) mirrors in
+            let a : x < b .vertices = omega (arith, lent .first (getD filled k 0) e) in
+            let c : y < b .vertices = omega (arith, lent .second (getD filled k 0) e) in
+            record {
+              same = λ u v hu hv.
+                  f .one u v (omega (arith, w .vertices)) (omega (arith, w .vertices))
+                  ∙ mirrored old u v x y hu hv a c
+                  ∙ rw (p, q)
+                  (sym (added-edge (unmarked (b .vertices) m ends) (lent-range lent) (withListed F k filled) (getD filled k 0) (withListed F (suc k) filled) (adds m F e) u v hu hv));
+            };
+      }

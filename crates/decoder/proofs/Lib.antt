@@ -1,0 +1,16 @@
+pub mod Stores
+pub mod Exposing
+pub mod Tallying
+pub mod Choosing
+pub mod Raising
+pub mod BookLaws
+pub mod Gathering
+pub mod TreeNames
+pub mod TreeLabelLaws
+pub mod ChoiceLaws
+pub mod AddedEdge
+pub mod Fusing
+pub mod GrowthStep
+pub mod MarksAside
+pub mod RunLaws
+pub mod DecodeLaws

@@ -1,0 +1,67 @@
+-- Supports: how they start, and what one growth adds to them. Internal: no part of what a reader of a product call must believe.
+-- Assumes nothing.
+use Prim.Native.Nat.{ℕ, _+_, _*_, _≤_, _<_, min}
+use mathlib.Core.Path.{_≡_}
+use mathlib.Core.Bool.{Bool, cond, not, _&&_, _||_}
+use mathlib.Core.List.{List}
+use lib.ListN.{length, getD, set}
+use lib.Dec.{eqb}
+use Rattle.model.specs.Sums.{Set, ones, someUpTo, values}
+use Rattle.model.specs.Board.{vertexLimit, edgeLimit}
+use Rattle.model.specs.Growth.{full}
+use Rattle.decoder.specs.Lent.{Ends}
+
+-- a cluster's vertices are marked: 1 inside, 0 outside
+pub record Marked (inside : List ℕ) : Type 0 where
+  pub small : (v : ℕ) → v < vertexLimit → getD inside v 0 ≤ 1
+
+-- how many ends edge e has in the cluster that is so marked
+abbrev pub gains : List ℕ → List ℕ → ℕ → ℕ
+gains ends inside e = getD inside (getD ends (2 * e) 0) 0 + getD inside (getD ends (2 * e + 1) 0) 0
+
+-- edge e's support after a growth of that cluster
+abbrev pub lifted : List ℕ → List ℕ → List ℕ → ℕ → ℕ
+lifted ends inside s e = min 2 (getD s e 0 + gains ends inside e)
+
+-- edge e is lent, and its ends have a mark
+pub record Gainable (ends inside : List ℕ) (e : ℕ) : Type 0 where
+  pub lent : 2 * e + 1 < length ends
+  pub first : getD ends (2 * e) 0 < vertexLimit
+  pub second : getD ends (2 * e + 1) 0 < vertexLimit
+  pub marks : Marked inside
+
+-- and it has a support
+pub record Liftable (ends inside s : List ℕ) (e : ℕ) : Type 0 where
+  pub gainable : Gainable ends inside e
+  pub edge : e < length s
+  pub small : getD s e 0 ≤ 2
+
+-- one edge lifted, and whether it becomes full
+pub record Lifts (ends inside s : List ℕ) (e : ℕ) (r : Bool) (s′ : List ℕ) : Type 0 where
+  pub support : s′ ≡ set s e (lifted ends inside s e)
+  pub becomes-full : r ≡ (not (full s e) && eqb (lifted ends inside s e) 2)
+
+-- every support is at most 2
+pub record Supports (s : List ℕ) : Type 0 where
+  pub small : (e : ℕ) → e < length s → getD s e 0 ≤ 2
+
+pub record Raisable (ends inside s filled : List ℕ) : Type 0 where
+  pub lent : Ends vertexLimit (length s) ends
+  pub marks : Marked inside
+  pub supports : Supports s
+  pub room : length filled ≡ edgeLimit
+
+-- e is one of the first k entries of a list of edges
+abbrev pub listed : ℕ → List ℕ → Set
+listed k l e = someUpTo k (λ i. eqb (getD l i 0) e)
+
+-- what one growth leaves: the supports, and a list of the edges that became full
+pub record Raises (ends inside s s′ filled : List ℕ) (count : ℕ) : Type 0 where
+  pub supports : s′ ≡ values (length s) (lifted ends inside s)
+  pub few : count ≤ length s
+  pub edges : (i : ℕ) → i < count → getD filled i 0 < length s
+  pub becomes-full : (e : ℕ) → e < length s → full s′ e ≡ (full s e || listed count filled e)
+
+-- lost edges start full, others with nothing
+abbrev pub startOf : List ℕ → List ℕ
+startOf loss = values (length loss) (λ e. cond (ones loss e) 2 0)
