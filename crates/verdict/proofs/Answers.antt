@@ -1,0 +1,122 @@
+-- The verdict's outcome from that of decoding: a refusal of its own tests, number 10 from decoding, or the comparison with the correction
+-- that decoding wrote. Assumes nothing.
+use Prim.Native.Nat.{ℕ, _≤_, _<_}
+use mathlib.Core.Path.{_≡_, refl, sym, ap, _∙_}
+use mathlib.Core.Bool.{Bool, true, false, cond, false≢true}
+use mathlib.Core.List.{List}
+use mathlib.Core.Option.{none, some, Option·some-ne-none}
+use native.Mathlib.Omega.{arith}
+use lib.ListN.{length, take, replicate, length-replicate}
+use lib.Seq.{length-take-le}
+use Rattle.model.specs.declared.refusal.Refusal.{Refusal}
+use Rattle.model.specs.declared.answers.Decoded.{Decoded}
+use Rattle.model.specs.declared.answers.Decoded.the-variants as decoded
+use Rattle.model.specs.declared.answers.Verdict.{Verdict}
+use Rattle.model.specs.declared.answers.Verdict.the-variants as verdict
+use Rattle.model.specs.Sums.{Set, _⊕_, bit, ones, bytes}
+use Rattle.model.specs.Board.{Board, Sheet, ValidBytes, edges}
+use Rattle.model.specs.Winding.{together, size}
+use Rattle.model.specs.Decoding.{noCorrection, growths, corrected}
+use Rattle.model.specs.Verdict.{differs, judgedAt, judged}
+use Rattle.model.specs.Refusals.{decodeRefusal, verdictRefusal}
+use Rattle.model.specs.Outcomes.{answer, noneAt, decodeAnswer, keyOr, Decodes, verdictAnswer, Judges}
+use Rattle.model.proofs.Contradiction.{zero-one}
+use Rattle.model.proofs.Bits.{bit-bound}
+use Rattle.model.proofs.ListLaws.{ones-bytes, length-values, getD-values}
+use Rattle.theory.proofs.Lines.{crossings-cong}
+use Rattle.board.proofs.Calls.{passes-decode, passes-verdict}
+use Rattle.verdict.specs.Judging.{Judgeable, Comparable}
+
+-- only the edges of the correction below the edge count matter
+judged-cong : (B : Board) (S C D H : Set) → ((e : ℕ) → e < edges B → C e ≡ D e) → judged B S C H ≡ judged B S D H
+unfolding judged
+judged-cong B S C D H same =
+    ap (λ x. judgedAt (differs B S H) x)
+    (crossings-cong B (together H C) (together H D) (λ e h. ap (λ t. H e ⊕ t) (same e h)))
+
+-- the bytes that decoding wrote are valid
+correction-valid : (n : ℕ) (D : Set) (l : List ℕ) → l ≡ bytes n D → ValidBytes n l
+correction-valid n D l q =
+    record {
+      count = ap length q ∙ length-values n (λ e. bit (D e));
+      each = λ i h. rw (q, getD-values n (λ e. bit (D e)) i 0 h) (bit-bound (D i));
+    }
+
+-- the front of an array of zeros
+pub front-long : (m n : ℕ) → m ≤ n → length (take m (replicate {A = ℕ} n 0)) ≡ m
+front-long m n h = length-take-le m (replicate n 0) (omega (arith, length-replicate {A = ℕ} n 0))
+
+-- what decoding wrote can be compared
+pub judgeable : (X : Sheet) (handed support correction support′ correction′ : List ℕ) (r : Decoded) (g k : ℕ) →
+    Comparable X handed support correction → Decodes X support correction r support′ correction′ → r ≡ decoded.Key g k →
+    Judgeable (X .board) (X .syndrome) handed correction′
+judgeable X handed support correction support′ correction′ r g k lent d q =
+    record {
+      board = lent .sheet .board;
+      syndrome-bytes = lent .sheet .syndrome;
+      handed-bytes = lent .handed-bytes;
+      correction-bytes =
+          correction-valid (edges (X .board)) (corrected X) correction′
+          (d .correction-bytes ∙ ap (λ a. keyOr a (bytes (edges (X .board)) (corrected X)) correction) q);
+    }
+
+-- a test of the verdict's own fails
+pub refused-judges : (X : Sheet) (handed : List ℕ) (n : Refusal) → verdictRefusal X handed ≡ some n → Judges X handed (verdict.Refused n)
+unfolding verdictAnswer
+refused-judges X handed n p =
+    record { shown = 0; result = rw p; shown-odd = λ q. absurd (Option·some-ne-none n (sym p ∙ q)) }
+
+module _ (X : Sheet) (handed support correction support′ correction′ : List ℕ) (lent : Comparable X handed support correction) where
+  passed : decodeRefusal X support correction ≡ none
+  passed =
+      passes-decode X support correction
+      (record { sheet = lent .sheet; support-long = lent .support-long; correction-long = lent .correction-long })
+
+  tested : verdictRefusal X handed ≡ none
+  tested = passes-verdict X handed (record { sheet = lent .sheet; bytes = lent .handed-bytes })
+
+  keyOrNone : ℕ → Decoded
+  keyOrNone shown =
+      cond (noCorrection (X .board) (ones (X .syndrome)))
+      (decoded.Refused (noneAt shown))
+      (decoded.Key (growths X) (size (X .board) (corrected X)))
+
+  decoded-is : (r : Decoded) (d : Decodes X support correction r support′ correction′) → r ≡ keyOrNone (d .shown)
+  unfolding decodeAnswer keyOrNone
+  decoded-is r d = d .result ∙ ap (λ t. answer t decoded.Refused (keyOrNone (d .shown))) passed
+
+  -- decoding refuses: number 10
+  pub none-judges : (a : Decoded) (n : Refusal) → a ≡ decoded.Refused n → Decodes X support correction a support′ correction′ →
+      Judges X handed (verdict.Refused n)
+  unfolding verdictAnswer keyOrNone
+  none-judges a n refused d = go (noCorrection (X .board) (ones (X .syndrome))) refl
+    where
+      go : (t : Bool) → noCorrection (X .board) (ones (X .syndrome)) ≡ t → Judges X handed (verdict.Refused n)
+      go true p =
+          let q : decoded.Refused n ≡ decoded.Refused (noneAt (d .shown)) = sym refused ∙ decoded-is a d ∙ rw p in
+          let same : n ≡ noneAt (d .shown) = cc in
+          record { shown = d .shown; result = rw (tested, p, same); shown-odd = λ z. d .shown-odd passed }
+      go false p =
+          let q : decoded.Refused n ≡ decoded.Key (growths X) (size (X .board) (corrected X)) = sym refused ∙ decoded-is a d ∙ rw p in
+          zero-one (cc)
+
+  -- decoding gives a key: the comparison with the correction that it wrote
+  pub key-judges : (a : Decoded) (g k : ℕ) (r : Verdict) → a ≡ decoded.Key g k → Decodes X support correction a support′ correction′ →
+      r ≡ judged (X .board) (ones (X .syndrome)) (ones correction′) (ones handed) → Judges X handed r
+  unfolding verdictAnswer keyOrNone
+  key-judges a g k r key d q = go (noCorrection (X .board) (ones (X .syndrome))) refl
+    where
+      go : (t : Bool) → noCorrection (X .board) (ones (X .syndrome)) ≡ t → Judges X handed r
+      go true p =
+          let e : decoded.Key g k ≡ decoded.Refused (noneAt (d .shown)) = sym key ∙ decoded-is a d ∙ rw p in
+          zero-one (cc)
+      go false p =
+          record {
+            shown = 0;
+            result =
+                q
+                ∙ judged-cong (X .board) (ones (X .syndrome)) (ones correction′) (corrected X) (ones handed)
+                (λ e h. ap (λ l. ones l e) (d .correction-bytes ∙ ap (λ x. keyOr x (bytes (edges (X .board)) (corrected X)) correction) key) ∙ ones-bytes (edges (X .board)) (corrected X) e h)
+                ∙ rw (tested, p);
+            shown-odd = λ z w. absurd (false≢true (sym p ∙ w));
+          }

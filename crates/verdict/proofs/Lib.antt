@@ -1,0 +1,6 @@
+mod Answers
+mod Copies
+mod Crossed
+mod Flips
+mod Judged
+mod Sound

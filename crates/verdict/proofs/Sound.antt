@@ -1,0 +1,78 @@
+-- What a marker may rely on follows from the verdict's outcome. Assumes nothing.
+use Prim.Native.Nat.{ℕ, _+_, _*_}
+use mathlib.Core.Path.{_≡_, refl, sym, ap, _∙_}
+use mathlib.Core.Bool.{Bool, true, false, cond}
+use mathlib.Core.List.{List}
+use mathlib.Core.Option.{none}
+use Rattle.model.specs.declared.answers.Verdict.{Verdict}
+use Rattle.model.specs.declared.answers.Verdict.the-variants.{Refused}
+use Rattle.model.specs.Sums.{Set, ones}
+use Rattle.model.specs.Board.{Board, Sheet}
+use Rattle.model.specs.Syndrome.{HasSyndrome}
+use Rattle.model.specs.Winding.{winds, together}
+use Rattle.model.specs.Decoding.{noCorrection, corrected}
+use Rattle.model.specs.Demand3.{Unmet, EveryLoopAbove, lostEdges, keptEdges}
+use Rattle.model.specs.Verdict.{judged, SoundVerdict}
+use Rattle.model.specs.Refusals.{verdictRefusal}
+use Rattle.model.specs.Outcomes.{answer, noneAt, verdictAnswer, Judges}
+use Rattle.model.proofs.Contradiction.{zero-one}
+use Rattle.theory.proofs.Syndromes.{InRange, valid-in-range}
+use Rattle.theory.proofs.NoCorrection.{no-correction-exactly}
+use Rattle.theory.proofs.Decodings.{key-reached, corrected-full, corrected-has-syndrome}
+use Rattle.theory.proofs.NotWinding.{not-winding}
+use Rattle.theory.proofs.VerdictGround.{judged-same, judged-wound, unwound-same, judged-answers}
+use Rattle.board.proofs.Calls.{verdict-passes}
+
+module _ (B : Board) (S lost C H : Set) where
+  -- number 10: no set has the syndrome
+  sound-none : (shown : ℕ) (r : Verdict) → r ≡ Refused (noneAt shown) → Unmet B S → SoundVerdict B S lost C H r
+  sound-none shown r q unmet =
+      record {
+        none-exactly = (λ a. unmet, λ u. record { vertex = record { 0 = shown }; answer = q });
+        same = λ p. zero-one (cc);
+        wound = λ x p. zero-one (cc);
+        promise = λ has above. absurd (unmet H has);
+      }
+
+  -- a comparison with the correction
+  sound-judged : (r : Verdict) → r ≡ judged B S C H → HasSyndrome B C S →
+      (HasSyndrome B H S → EveryLoopAbove B (lostEdges B lost + 2 * keptEdges B lost H) → winds B (together H C) ≡ false) →
+      SoundVerdict B S lost C H r
+  sound-judged r q has unwound =
+      record {
+        none-exactly = (λ a. absurd (judged-answers B S C H _ has (sym q ∙ a .answer)), λ unmet. absurd (unmet C has));
+        same = λ p. let w = judged-same B S C H has (sym q ∙ p) in (w .is-closed, w .winding);
+        wound = λ x p. let w = judged-wound B S C H x has (sym q ∙ p) in (w .is-closed, w .winding);
+        promise = λ hands above. q ∙ unwound-same B S C H has hands (unwound hands above);
+      }
+
+-- Whatever meets the verdict's outcome on a sheet and a set that pass its tests is what a marker may rely on.
+pub judges-sound : (X : Sheet) (handed : List ℕ) (r : Verdict) → verdictRefusal X handed ≡ none → Judges X handed r →
+    SoundVerdict (X .board) (ones (X .syndrome)) (ones (X .loss)) (corrected X) (ones handed) r
+unfolding verdictAnswer
+judges-sound X handed r passed j = go (noCorrection B S) refl
+  where
+    B : Board
+    B = X .board
+
+    S : Set
+    S = ones (X .syndrome)
+
+    range : InRange B
+    range = valid-in-range (verdict-passes X handed passed .sheet .board)
+
+    result : r ≡ cond (noCorrection B S) (Refused (noneAt (j .shown))) (judged B S (corrected X) (ones handed))
+    result =
+        j .result
+        ∙ ap (λ t. answer t Refused (cond (noCorrection B S) (Refused (noneAt (j .shown))) (judged B S (corrected X) (ones handed)))) passed
+
+    go : (t : Bool) → noCorrection B S ≡ t → SoundVerdict B S (ones (X .loss)) (corrected X) (ones handed) r
+    go true p =
+        sound-none B S (ones (X .loss)) (corrected X) (ones handed) (j .shown) r (result ∙ rw p)
+        (no-correction-exactly B range S .0 p)
+    go false p =
+        sound-judged B S (ones (X .loss)) (corrected X) (ones handed) r (result ∙ rw p) has
+        (λ hands above. not-winding B range S (ones (X .loss)) (ones handed) (corrected X) hands has (key-reached X) (corrected-full X) above)
+      where
+        has : HasSyndrome B (corrected X) S
+        has = corrected-has-syndrome X range p

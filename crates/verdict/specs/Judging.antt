@@ -1,0 +1,20 @@
+-- What is known of a sheet, a handed-in set and a correction before they are compared. No part of what a reader must believe.
+-- Assumes nothing.
+use mathlib.Core.List.{List}
+use Prim.Native.Nat.{ℕ}
+use lib.ListN.{length}
+use mathlib.Core.Path.{_≡_}
+use Rattle.model.specs.Board.{Board, Sheet, Valid, ValidBytes, ValidSheet, edges}
+
+pub record Judgeable (B : Board) (syndrome handed correction : List ℕ) : Type 0 where
+  pub board : Valid B
+  pub syndrome-bytes : ValidBytes (B .vertices) syndrome
+  pub handed-bytes : ValidBytes (edges B) handed
+  pub correction-bytes : ValidBytes (edges B) correction
+
+-- a sheet and a handed-in set that pass the tests, with two buffers for decoding
+pub record Comparable (X : Sheet) (handed support correction : List ℕ) : Type 0 where
+  pub sheet : ValidSheet X
+  pub handed-bytes : ValidBytes (edges (X .board)) handed
+  pub support-long : length support ≡ edges (X .board)
+  pub correction-long : length correction ≡ edges (X .board)
