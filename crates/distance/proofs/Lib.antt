@@ -1,0 +1,12 @@
+pub mod Cases
+pub mod Counting
+pub mod Storing
+pub mod StateLaws
+pub mod Leading
+pub mod Entering
+pub mod Shortest
+pub mod Turning
+pub mod Tracing
+pub mod Meetings
+pub mod Answers
+pub mod Outcome

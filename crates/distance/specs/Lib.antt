@@ -1,0 +1,5 @@
+pub mod States
+pub mod Search
+pub mod Walking
+pub mod Tracing
+pub mod Found

@@ -1,0 +1,6 @@
+pub mod Numbering
+pub mod Edges
+pub mod Filling
+pub mod Writing
+pub mod Rows
+pub mod Validity

@@ -1,0 +1,20 @@
+-- `torus::cells::right_mark` meets its contract. Assumes nothing.
+use borrow.Author.Needs.{needs}
+use borrow.Author.Tests.{eq-eqb, ne-eqb}
+use Rattle.torus.proofs.cells.right_mark.Statement.{statement}
+use Rattle.torus.proofs.cells.right_mark.Tie as tie
+
+rem-if1 : tie.Need-rem-if1
+rem-if1 c = search needs
+
+sub-if1 : tie.Need-sub-if1
+sub-if1 c = search needs
+
+returns : tie.Need-returns
+returns c = rw (eq-eqb _ _ (c .if1 .taken))
+
+returns-2 : tie.Need-returns-2
+returns-2 c = rw (ne-eqb _ _ (c .if1 .left))
+
+pub right-mark-spec : {M : Type 1} → statement M
+right-mark-spec = tie.close (tie.spec rem-if1 sub-if1 returns returns-2)

@@ -1,0 +1,100 @@
+-- `torus::torus` meets its contract: each refusal by its test, and otherwise what the two loops fill. Assumes nothing.
+use Prim.Native.Nat.{_*_}
+use mathlib.Core.Path.{refl}
+use mathlib.Core.Logic.{⊎-elim}
+use native.Mathlib.Omega.{arith}
+use borrow.Author.Needs.{needs}
+use borrow.Author.Tests.{ltb-true, ltb-false, eqb-true, le-leb, lt-leb, eq-eqb, ne-eqb, not-true, not-false}
+use denote.Ref.{now}
+use lib.ListN.{length}
+use lib.Dec.{eqb}
+use Rattle.model.specs.Refusals.{torusRefusal}
+use Rattle.model.specs.Outcomes.{torusAnswer}
+use Rattle.torus.proofs.Numbering.{square-limit}
+use Rattle.torus.proofs.torus.Statement.{statement}
+use Rattle.torus.proofs.torus.Tie as tie
+
+returns : tie.Need-returns
+unfolding torusAnswer torusRefusal
+returns c =
+    record {
+      result =
+          ⊎-elim (λ w. rw (lt-leb _ _ (w .taken)))
+          (λ w. rw (le-leb _ _ (w .0 .left), lt-leb _ _ (ltb-true _ _ (w .1 .taken))))
+          (c .if1 .came);
+      ends-filled = refl;
+      marks-filled = refl;
+    }
+
+mul-vertices : tie.Need-mul-vertices
+mul-vertices c = omega (arith, square-limit (c .before .before .before .before .args .side) (ltb-false _ _ (c .if2 .left)))
+
+mul-if3 : tie.Need-mul-if3
+mul-if3 c = omega (arith, square-limit (c .before .before .before .before .args .side) (ltb-false _ _ (c .if2 .left)))
+
+mul-if4 : tie.Need-mul-if4
+mul-if4 c = search needs
+
+returns-2 : tie.Need-returns-2
+unfolding torusAnswer torusRefusal
+returns-2 c =
+    let a = c .before .before .before .before .before .args in
+    record {
+      result =
+          rw (le-leb _ _ (c .before .before .if1 .left), le-leb _ _ (ltb-false _ _ (c .before .if2 .left)))
+          (⊎-elim (λ w. rw (ne-eqb _ _ (w .taken)))
+          (λ w. rw (eq-eqb _ _ (w .0 .left), not-true (eqb (length (now (a .marks))) (2 * (a .side * a .side))) (w .1 .taken)))
+          (c .if3 .came));
+      ends-filled = refl;
+      marks-filled = refl;
+    }
+
+fill-ends-requires : tie.Need-fill-ends-requires
+fill-ends-requires c κs = search needs
+
+fill-marks-requires : tie.Need-fill-marks-requires
+fill-marks-requires c κs =
+    let on = c .before .before .before .before .before in
+    let a = on .before .before .before .before .before .before .args in (
+      search needs,
+      ltb-false _ _ (on .before .before .if2 .left),
+      eqb-true _ _ (not-false (eqb (length (now (a .marks))) (2 * (a .side * a .side))) (on .if4 .left)),
+    )
+
+same-length : tie.Need-same-length
+same-length c = search needs
+
+same-length-2 : tie.Need-same-length-2
+same-length-2 c = search needs
+
+returns-3 : tie.Need-returns-3
+unfolding torusAnswer torusRefusal
+returns-3 c =
+    let on = c .before .before .before .before .before .before .before .before in
+    let a = on .before .before .before .before .before .before .args in
+    record {
+      result =
+          rw (
+            le-leb _ _ (on .before .before .before .if1 .left),
+            le-leb _ _ (ltb-false _ _ (on .before .before .if2 .left)),
+            eq-eqb _ _ (on .before .if3 .left),
+            not-false (eqb (length (now (a .marks))) (2 * (a .side * a .side))) (on .if4 .left),
+          );
+      ends-filled = c .before .before .before .before .before .before .fill-ends .ensures;
+      marks-filled = c .before .before .fill-marks .ensures;
+    }
+
+pub torus-spec : {M : Type 1} → statement M
+torus-spec =
+    tie.close
+    (tie.spec
+    returns
+    mul-vertices
+    mul-if3
+    mul-if4
+    returns-2
+    fill-ends-requires
+    fill-marks-requires
+    same-length
+    same-length-2
+    returns-3)
