@@ -1,0 +1,133 @@
+-- The arrays hold the sheet read so far: at its begin, and after one line more. Assumes nothing.
+use Prim.Native.Nat.{ℕ, _+_, _*_, _≤_, _<_}
+use mathlib.Core.Path.{_≡_, refl, sym, ap, _∙_}
+use mathlib.Core.Bool.{true, not, _&&_, false≢true}
+use mathlib.Core.List.{List, [], _∷_, _++_, append-assoc}
+use native.Mathlib.Numerals.{add-one}
+use native.Mathlib.Omega.{arith}
+use borrow.Author.Tests.{ltb-true, leb-true}
+use lib.ListN.{length, getD, take, set, replicate, length-append, length-set, length-replicate, getD-replicate}
+use lib.Seq.{ext-getD, getD-take, length-take-le, take-suc-set, take-set-lt}
+use lib.Dec.{eqb, leb, ltb}
+use Rattle.model.proofs.Xor.{and-left, and-right}
+use Rattle.model.specs.Board.{Sheet, edges, vertexLimit, edgeLimit}
+use Rattle.model.specs.Text.{Line, V-line, E-line, S-line, X-line, edgeMayFollow, syndromeMayFollow, lossMayFollow, begun}
+use Rattle.text.specs.Order.{edgeFits, mayStand}
+use Rattle.text.specs.Scratch.{Sized, Storable, endsWith, marksWith, syndromeWith, lossWith, edgesWith, Holds}
+use Rattle.text.proofs.ReadLaws.{withLine}
+
+-- zeros in front of zeros
+take-zeros : (n : ℕ) (l : List ℕ) → n ≤ length l → ((i : ℕ) → getD l i 0 ≡ 0) → take n l ≡ replicate n 0
+take-zeros n l h zeros =
+    let long = length-take-le n l h in
+    ext-getD 0 (take n l) (replicate n 0) (long ∙ sym (length-replicate n 0))
+    (λ i lt. getD-take n l i 0 (omega arith) ∙ zeros i ∙ sym (getD-replicate n i 0 0 (omega arith)))
+
+pub holds-begun : (n : ℕ) (E M S L : List ℕ) → Sized E M S L → ((v : ℕ) → getD S v 0 ≡ 0) → n ≤ vertexLimit → Holds (begun n) E M S L
+holds-begun n E M S L sized zeros h =
+    record {
+      sized = sized;
+      vertex-limit = h;
+      edge-limit = omega arith;
+      ends-held = refl;
+      marks-held = refl;
+      syndrome-held = take-zeros n S (omega arith) zeros;
+      loss-held = refl;
+    }
+
+-- what may stand fits the arrays
+pub storable : (n m : ℕ) (last l : Line) → n ≤ vertexLimit → m ≤ edgeLimit → mayStand n m last l ≡ true → Storable m l
+storable n m last (V-line k) hn hm p = absurd (false≢true p)
+storable n m last (E-line a b k) hn hm p =
+    let fits = and-right (edgeMayFollow last) (edgeFits n m a b k) p in
+    let ends = and-left (ltb m edgeLimit && ltb a n && ltb b n && not (eqb a b)) (leb k 3) fits in (
+      ltb-true m edgeLimit
+          (and-left (ltb m edgeLimit) (ltb a n)
+          (and-left (ltb m edgeLimit && ltb a n) (ltb b n)
+          (and-left (ltb m edgeLimit && ltb a n && ltb b n) (not (eqb a b)) ends))),
+      leb-true k 3 (and-right (ltb m edgeLimit && ltb a n && ltb b n && not (eqb a b)) (leb k 3) fits),
+    )
+storable n m last (S-line v) hn hm p =
+    let lv = ltb-true v n (and-right (syndromeMayFollow last v) (ltb v n) p) in
+    omega arith
+storable n m last (X-line e) hn hm p =
+    let le = ltb-true e m (and-right (lossMayFollow last e) (ltb e m) p) in
+    omega arith
+
+pub edges-with : (X : Sheet) (l : Line) → edges (withLine X l .board) ≡ edgesWith (edges (X .board)) l
+unfolding withLine
+edges-with X (V-line n) = refl
+edges-with X (E-line a b m) = length-append (X .board .marks) (m ∷ [])
+edges-with X (S-line v) = refl
+edges-with X (X-line e) = refl
+
+pub vertices-with : (X : Sheet) (l : Line) → withLine X l .board .vertices ≡ X .board .vertices
+unfolding withLine
+vertices-with X (V-line n) = refl
+vertices-with X (E-line a b m) = refl
+vertices-with X (S-line v) = refl
+vertices-with X (X-line e) = refl
+
+-- one entry more, or two, behind those in front
+one-more : (l : List ℕ) (i a : ℕ) → i < length l → take (i + 1) (set l i a) ≡ take i l ++ (a ∷ [])
+one-more l i a h = rw (add-one i) (take-suc-set l i a h)
+
+two-more : (l : List ℕ) (i a b : ℕ) → i + 1 < length l → take (i + 2) (set (set l i a) (i + 1) b) ≡ take i l ++ (a ∷ b ∷ [])
+two-more l i a b h =
+    ap (λ n. take n (set (set l i a) (i + 1) b)) {x = i + 2} {y = i + 1 + 1} (omega arith)
+    ∙ one-more (set l i a) (i + 1) b (rw (length-set l i a) h)
+    ∙ ap (λ xs. xs ++ (b ∷ [])) (one-more l i a (omega arith))
+    ∙ append-assoc (take i l) (a ∷ []) (b ∷ [])
+
+module _ (X : Sheet) (E M S L : List ℕ) (w : Holds X E M S L) (last : Line) where
+  pub holds-line : (l : Line) → mayStand (X .board .vertices) (edges (X .board)) last l ≡ true → Holds (withLine X l) (endsWith (edges (X .board)) l E) (marksWith (edges (X .board)) l M) (syndromeWith l S) (lossWith (edges (X .board)) l L)
+  unfolding withLine
+  holds-line (V-line n) p = absurd (false≢true p)
+  holds-line (E-line a b k) p =
+      let m = edges (X .board) in
+      let fits = storable (X .board .vertices) m last (E-line a b k) (w .vertex-limit) (w .edge-limit) p in
+      let more : length (X .board .marks ++ (k ∷ [])) ≡ m + 1 = length-append (X .board .marks) (k ∷ []) in
+      record {
+        sized = record { ends-long = length-set (set E (2 * m) a) (2 * m + 1) b ∙ length-set E (2 * m) a ∙ w .sized .ends-long; marks-long = length-set M m k ∙ w .sized .marks-long; syndrome-long = w .sized .syndrome-long; loss-long = length-set L m 0 ∙ w .sized .loss-long };
+        vertex-limit = w .vertex-limit;
+        edge-limit = rw more (omega arith);
+        ends-held =
+            ap (λ n. take n (set (set E (2 * m) a) (2 * m + 1) b)) {x = 2 * length (X .board .marks ++ (k ∷ []))} {y = 2 * m + 2} (omega arith)
+            ∙ two-more E (2 * m) a b (omega arith)
+            ∙ ap (λ l. l ++ (a ∷ b ∷ [])) (w .ends-held);
+        marks-held = ap (λ n. take n (set M m k)) more ∙ one-more M m k (omega arith) ∙ ap (λ l. l ++ (k ∷ [])) (w .marks-held);
+        syndrome-held = w .syndrome-held;
+        loss-held = ap (λ n. take n (set L m 0)) more ∙ one-more L m 0 (omega arith) ∙ ap (λ l. l ++ (0 ∷ [])) (w .loss-held);
+      }
+  holds-line (S-line v) p =
+      let lv = ltb-true v (X .board .vertices) (and-right (syndromeMayFollow last v) (ltb v (X .board .vertices)) p) in
+      record {
+        sized = record { ends-long = w .sized .ends-long; marks-long = w .sized .marks-long; syndrome-long = length-set S v 1 ∙ w .sized .syndrome-long; loss-long = w .sized .loss-long };
+        vertex-limit = w .vertex-limit;
+        edge-limit = w .edge-limit;
+        ends-held = w .ends-held;
+        marks-held = w .marks-held;
+        syndrome-held = take-set-lt (X .board .vertices) S v 1 lv ∙ ap (λ s. set s v 1) (w .syndrome-held);
+        loss-held = w .loss-held;
+      }
+  holds-line (X-line e) p =
+      let le = ltb-true e (edges (X .board)) (and-right (lossMayFollow last e) (ltb e (edges (X .board))) p) in
+      record {
+        sized = record { ends-long = w .sized .ends-long; marks-long = w .sized .marks-long; syndrome-long = w .sized .syndrome-long; loss-long = length-set L e 1 ∙ w .sized .loss-long };
+        vertex-limit = w .vertex-limit;
+        edge-limit = w .edge-limit;
+        ends-held = w .ends-held;
+        marks-held = w .marks-held;
+        syndrome-held = w .syndrome-held;
+        loss-held = take-set-lt (edges (X .board)) L e 1 le ∙ ap (λ s. set s e 1) (w .loss-held);
+      }
+
+-- arrays of zeros have room for every sheet
+pub zeros-sized : Sized (replicate 8192 0) (replicate 4096 0) (replicate 1024 0) (replicate 4096 0)
+zeros-sized =
+    record {
+      ends-long = length-replicate {A = ℕ} 8192 0;
+      marks-long = length-replicate {A = ℕ} 4096 0;
+      syndrome-long = length-replicate {A = ℕ} 1024 0;
+      loss-long = length-replicate {A = ℕ} 4096 0;
+    }

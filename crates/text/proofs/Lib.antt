@@ -1,0 +1,15 @@
+pub mod Example
+pub mod CopyLaws
+pub mod DecimalLaws
+pub mod PutLaws
+pub mod PrintLaws
+pub mod PieceLaws
+pub mod FieldLaws
+pub mod LineLaws
+pub mod ReadLaws
+pub mod FirstLaws
+pub mod HoldLaws
+pub mod ProgressLaws
+pub mod ReadOutcome
+pub mod WriteOutcome
+pub mod TextCalls

@@ -1,0 +1,126 @@
+-- `text::line::edge_line` meets its contract: the three fields are read one after the other, and a fourth is refused. Assumes nothing.
+use mathlib.Core.Path.{_≡_, refl, sym, ap, _∙_}
+use borrow.Author.Needs.{needs}
+use denote.Ref.{now}
+use Rattle.text.specs.Lines.{asRead, fieldsRead}
+use Rattle.text.proofs.LineLaws.{bad-field, last-field, field-before, four-fields}
+use Rattle.text.proofs.line.edge_line.Statement.{statement}
+use Rattle.text.proofs.line.edge_line.Tie as tie
+use Rattle.text.proofs.line.edge_line.Reads as reads
+use Rattle.text.proofs.line.edge_line.Lts as lts
+use Rattle.text.proofs.field.field_at.Reads as field-at-reads
+
+field-at-requires : tie.Need-field-at-requires
+field-at-requires c κs = search needs
+
+enum-known-first : tie.Need-enum-known-first
+enum-known-first c = search needs
+
+enum-told : tie.Need-enum-told
+enum-told c = search needs
+
+returns : tie.Need-returns
+unfolding fieldsRead
+returns c = rw (bad-field (now (c .before .before .before .before .args .line)) 2 (sym (c .before .before .field-at .ensures) ∙ c .enum-told .given .1))
+
+returns-2 : tie.Need-returns-2
+unfolding fieldsRead
+returns-2 c =
+    let l = now (c .before .before .before .before .before .before .args .line) in
+    rw (last-field l 2 _ _ (sym (c .before .before .before .before .field-at .ensures) ∙ c .before .before .first .given .1) (c .if1 .taken))
+
+add-field-at : tie.Need-add-field-at
+add-field-at c = search needs
+
+field-at-requires-2 : tie.Need-field-at-requires-2
+field-at-requires-2 c κs = search needs
+
+enum-known-second : tie.Need-enum-known-second
+enum-known-second c = search needs
+
+enum-told-2 : tie.Need-enum-told-2
+enum-told-2 c = search needs
+
+returns-3 : tie.Need-returns-3
+unfolding fieldsRead
+returns-3 c =
+    let l = now (c .before .before .before .before .before .before .before .before .before .args .line) in
+    rw (
+      field-before l 2 _ _ (sym (c .before .before .before .before .before .before .before .field-at .ensures) ∙ c .before .before .before .before .before .first .given .1) (c .before .before .before .if1 .left),
+      bad-field l _ (sym (c .before .before .field-at2 .ensures) ∙ c .enum-told2 .given .1),
+    )
+
+returns-4 : tie.Need-returns-4
+unfolding fieldsRead
+returns-4 c =
+    let l = now (c .before .before .before .before .before .before .before .before .before .before .before .args .line) in
+    rw (
+      field-before l 2 _ _ (sym (c .before .before .before .before .before .before .before .before .before .field-at .ensures) ∙ c .before .before .before .before .before .before .before .first .given .1) (c .before .before .before .before .before .if1 .left),
+      last-field l _ _ _ (sym (c .before .before .before .before .field-at2 .ensures) ∙ c .before .before .second .given .1) (c .if2 .taken),
+    )
+
+add-field-at-2 : tie.Need-add-field-at-2
+add-field-at-2 c = search needs
+
+field-at-requires-3 : tie.Need-field-at-requires-3
+field-at-requires-3 c κs = search needs
+
+enum-known-mark : tie.Need-enum-known-mark
+enum-known-mark c = search needs
+
+enum-told-3 : tie.Need-enum-told-3
+enum-told-3 c = search needs
+
+returns-5 : tie.Need-returns-5
+unfolding fieldsRead
+returns-5 c =
+    let l = now (c .before .before .before .before .before .before .before .before .before .before .before .before .before .before .args .line) in
+    rw (
+      field-before l 2 _ _ (sym (c .before .before .before .before .before .before .before .before .before .before .before .before .field-at .ensures) ∙ c .before .before .before .before .before .before .before .before .before .before .first .given .1) (c .before .before .before .before .before .before .before .before .if1 .left),
+      field-before l _ _ _ (sym (c .before .before .before .before .before .before .before .field-at2 .ensures) ∙ c .before .before .before .before .before .second .given .1) (c .before .before .before .if2 .left),
+      bad-field l _ (sym (c .before .before .field-at3 .ensures) ∙ c .enum-told3 .given .1),
+    )
+
+returns-6 : tie.Need-returns-6
+unfolding fieldsRead
+returns-6 c =
+    let l = now (c .before .before .before .before .before .before .before .before .before .before .before .before .before .before .before .before .args .line) in
+    rw (
+      field-before l 2 _ _ (sym (c .before .before .before .before .before .before .before .before .before .before .before .before .before .before .field-at .ensures) ∙ c .before .before .before .before .before .before .before .before .before .before .before .before .first .given .1) (c .before .before .before .before .before .before .before .before .before .before .if1 .left),
+      field-before l _ _ _ (sym (c .before .before .before .before .before .before .before .before .before .field-at2 .ensures) ∙ c .before .before .before .before .before .before .before .second .given .1) (c .before .before .before .before .before .if2 .left),
+      field-before l _ _ _ (sym (c .before .before .before .before .field-at3 .ensures) ∙ c .before .before .mark .given .1) (c .if3 .taken),
+    )
+    (ap (λ o. asRead o (c .before .before .before .before .before .before .before .before .before .before .before .before .before .before .before .before .args .next)) (sym (four-fields _ _ _ _)))
+
+returns-7 : tie.Need-returns-7
+unfolding fieldsRead
+returns-7 c =
+    let l = now (c .before .before .before .before .before .before .before .before .before .before .before .before .before .before .before .before .args .line) in
+    rw (
+      field-before l 2 _ _ (sym (c .before .before .before .before .before .before .before .before .before .before .before .before .before .before .field-at .ensures) ∙ c .before .before .before .before .before .before .before .before .before .before .before .before .first .given .1) (c .before .before .before .before .before .before .before .before .before .before .if1 .left),
+      field-before l _ _ _ (sym (c .before .before .before .before .before .before .before .before .before .field-at2 .ensures) ∙ c .before .before .before .before .before .before .before .second .given .1) (c .before .before .before .before .before .if2 .left),
+      last-field l _ _ _ (sym (c .before .before .before .before .field-at3 .ensures) ∙ c .before .before .mark .given .1) (c .if3 .left),
+    )
+
+pub edge-line-spec : {M : Type 1} → statement M
+edge-line-spec =
+    tie.close
+    (tie.spec
+    field-at-requires
+    enum-known-first
+    enum-told
+    returns
+    returns-2
+    add-field-at
+    field-at-requires-2
+    enum-known-second
+    enum-told-2
+    returns-3
+    returns-4
+    add-field-at-2
+    field-at-requires-3
+    enum-known-mark
+    enum-told-3
+    returns-5
+    returns-6
+    returns-7)

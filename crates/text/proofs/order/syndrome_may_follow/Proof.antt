@@ -1,0 +1,46 @@
+-- `text::order::syndrome_may_follow` meets its contract, case by case. Assumes nothing.
+use mathlib.Core.Path.{sym, ap}
+use borrow.Author.Needs.{needs}
+use Rattle.model.specs.Text.{syndromeMayFollow}
+use Rattle.text.specs.Order.{meant}
+use Rattle.text.proofs.order.syndrome_may_follow.Statement.{statement}
+use Rattle.text.proofs.order.syndrome_may_follow.Tie as tie
+use Rattle.text.proofs.order.syndrome_may_follow.Reads as reads
+use Rattle.text.proofs.order.syndrome_may_follow.Lts as lts
+
+enum-told : tie.Need-enum-told
+enum-told c = search needs
+
+enum-told-2 : tie.Need-enum-told-2
+enum-told-2 c = search needs
+
+enum-known-last : tie.Need-enum-known-last
+enum-known-last c = search needs
+
+enum-told-3 : tie.Need-enum-told-3
+enum-told-3 c = search needs
+
+returns : tie.Need-returns
+returns c = search needs
+
+returns-2 : tie.Need-returns-2
+returns-2 c = search needs
+
+returns-3 : tie.Need-returns-3
+returns-3 c = sym (ap (λ l. syndromeMayFollow (meant l) (c .before .before .before .before .before .args .vertex .0)) (c .before .before .before .last .given .1))
+
+returns-4 : tie.Need-returns-4
+returns-4 c = search needs
+
+pub syndrome-may-follow-spec : {M : Type 1} → statement M
+syndrome-may-follow-spec =
+    tie.close
+    (tie.spec
+    enum-told
+    enum-told-2
+    enum-known-last
+    enum-told-3
+    returns
+    returns-2
+    returns-3
+    returns-4)

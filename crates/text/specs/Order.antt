@@ -1,0 +1,27 @@
+-- Which line may stand where, by the counts so far alone. No part of what a reader must believe: inner contracts name it.
+-- Assumes nothing.
+use Prim.Native.Nat.{ℕ}
+use mathlib.Core.Bool.{Bool, false, not, _&&_}
+use lib.Dec.{eqb, leb, ltb}
+use Rattle.model.specs.Board.{edgeLimit}
+use Rattle.model.specs.Text as text
+use Rattle.model.specs.Text.{V-line, E-line, S-line, X-line, edgeMayFollow, syndromeMayFollow, lossMayFollow}
+use Rattle.text.specs.declared.line.Line.{Line}
+use Rattle.text.specs.declared.line.Line.the-variants as line
+
+-- the line of the definitions that a value of the reader's stands for
+abbrev pub meant : Line → text.Line
+meant (line.Vertices n) = V-line n
+meant (line.Edge a b m) = E-line (a .0) (b .0) m
+meant (line.Syndrome v) = S-line (v .0)
+meant (line.Lost e) = X-line (e .0)
+
+-- an edge's fields on a board of n vertices that has m edges already
+abbrev pub edgeFits : ℕ → ℕ → ℕ → ℕ → ℕ → Bool
+edgeFits n m a b k = ltb m edgeLimit && ltb a n && ltb b n && not (eqb a b) && leb k 3
+
+abbrev pub mayStand : ℕ → ℕ → text.Line → text.Line → Bool
+mayStand n m last (V-line k) = false
+mayStand n m last (E-line a b k) = edgeMayFollow last && edgeFits n m a b k
+mayStand n m last (S-line v) = syndromeMayFollow last v && ltb v n
+mayStand n m last (X-line e) = lossMayFollow last e && ltb e m

@@ -1,0 +1,82 @@
+use crate::line::Line;
+use model::limits::EDGES;
+use model::numbers::Edge;
+use model::numbers::Vertex;
+ghost use mathlib.Core.Path.{_≡_};
+ghost use Rattle.model.specs.Text.{edgeMayFollow, syndromeMayFollow, lossMayFollow};
+ghost use Rattle.text.specs.Order.{meant, edgeFits, mayStand};
+
+// `E` lines follow the `V` line and one another.
+fn edge_may_follow(last: Line) -> bool
+    ensures { λ r. ⌜ r ≡ edgeMayFollow (meant last) ⌝ }
+{
+    match last {
+        Line::Vertices(_) => true,
+        Line::Edge {
+            first: _,
+            second: _,
+            mark: _,
+        } => true,
+        Line::Syndrome(_) => false,
+        Line::Lost(_) => false,
+    }
+}
+
+// `S` lines follow those, rising.
+fn syndrome_may_follow(last: Line, vertex: Vertex) -> bool
+    ensures { λ r. ⌜ r ≡ syndromeMayFollow (meant last) (vertex .0) ⌝ }
+{
+    match last {
+        Line::Vertices(_) => true,
+        Line::Edge {
+            first: _,
+            second: _,
+            mark: _,
+        } => true,
+        Line::Syndrome(v) => v.0 < vertex.0,
+        Line::Lost(_) => false, // `X` lines come last
+    }
+}
+
+// `X` lines follow those, rising.
+fn loss_may_follow(last: Line, edge: Edge) -> bool
+    ensures { λ r. ⌜ r ≡ lossMayFollow (meant last) (edge .0) ⌝ }
+{
+    match last {
+        Line::Vertices(_) => true,
+        Line::Edge {
+            first: _,
+            second: _,
+            mark: _,
+        } => true,
+        Line::Syndrome(_) => true,
+        Line::Lost(e) => e.0 < edge.0,
+    }
+}
+
+// An edge's fields are in range, its ends differ, and it is not one too many.
+fn edge_fits(first: Vertex, second: Vertex, mark: u16, vertices: u16, edges: u16) -> bool
+    ensures { λ r. ⌜ r ≡ edgeFits vertices edges (first .0) (second .0) mark ⌝ }
+{
+    ((edges as usize) < EDGES)
+        & (first.0 < vertices)
+        & (second.0 < vertices)
+        & (first.0 != second.0)
+        & (mark <= 3)
+}
+
+// May a line stand after the last one, on a sheet of so many vertices and so far so many edges?
+pub fn may_stand(last: Line, line: Line, vertices: u16, edges: u16) -> bool
+    ensures { λ r. ⌜ r ≡ mayStand vertices edges (meant last) (meant line) ⌝ }
+{
+    match line {
+        Line::Vertices(_) => false,
+        Line::Edge {
+            first,
+            second,
+            mark,
+        } => { edge_may_follow(last) & edge_fits(first, second, mark, vertices, edges) }
+        Line::Syndrome(v) => syndrome_may_follow(last, v) & (v.0 < vertices),
+        Line::Lost(e) => loss_may_follow(last, e) & (e.0 < edges),
+    }
+}

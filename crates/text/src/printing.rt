@@ -1,0 +1,62 @@
+use crate::field::DIGIT_ZERO;
+use crate::field::TAB;
+use crate::line::LETTER_E;
+use crate::line::NEWLINE;
+ghost use Prim.Native.Nat.{_+_, _≤_, _<_};
+ghost use mathlib.Core.List.{[], _∷_};
+ghost use lib.ListN.{length};
+ghost use Rattle.model.specs.Text.{decimal};
+ghost use Rattle.text.specs.Printing.{Puts, fieldBytes, numberBytes, edgeBytes};
+
+// Puts a number's digits, the last of them after those of the tens, and hands back the position after them.
+pub fn put_number(out: &mut [u8], at: usize, n: u16) -> usize
+    requires { ⌜ at + length (decimal n) ≤ length (now out) ⌝ }
+    ensures { λ r. ⌜ Puts (decimal n) (now (out .entry)) at r (now (out .exit)) ⌝ }
+{
+    if n < 10 {
+        out[at] = DIGIT_ZERO + n as u8;
+        return at + 1;
+    }
+    let last = put_number(out, at, n / 10);
+    out[last] = DIGIT_ZERO + (n % 10) as u8;
+    last + 1
+}
+
+fn put_byte(out: &mut [u8], at: usize, byte: u8) -> usize
+    requires { ⌜ at < length (now out) ⌝ }
+    ensures { λ r. ⌜ Puts (byte ∷ []) (now (out .entry)) at r (now (out .exit)) ⌝ }
+{
+    out[at] = byte;
+    at + 1
+}
+
+// Puts a tab and a number.
+fn put_field(out: &mut [u8], at: usize, n: u16) -> usize
+    requires { ⌜ at + length (fieldBytes n) ≤ length (now out) ⌝ }
+    ensures { λ r. ⌜ Puts (fieldBytes n) (now (out .entry)) at r (now (out .exit)) ⌝ }
+{
+    let digits = put_byte(out, at, TAB);
+    put_number(out, digits, n)
+}
+
+// Puts a line of one number.
+pub fn put_line(out: &mut [u8], at: usize, letter: u8, n: u16) -> usize
+    requires { ⌜ at + length (numberBytes letter n) ≤ length (now out) ⌝ }
+    ensures { λ r. ⌜ Puts (numberBytes letter n) (now (out .entry)) at r (now (out .exit)) ⌝ }
+{
+    let field = put_byte(out, at, letter);
+    let end = put_field(out, field, n);
+    put_byte(out, end, NEWLINE) // ends a line of one number
+}
+
+// Puts an edge's line.
+pub fn put_edge(out: &mut [u8], at: usize, first: u16, second: u16, mark: u16) -> usize
+    requires { ⌜ at + length (edgeBytes first second mark) ≤ length (now out) ⌝ }
+    ensures { λ r. ⌜ Puts (edgeBytes first second mark) (now (out .entry)) at r (now (out .exit)) ⌝ }
+{
+    let first_at = put_byte(out, at, LETTER_E);
+    let second_at = put_field(out, first_at, first);
+    let mark_at = put_field(out, second_at, second);
+    let end = put_field(out, mark_at, mark);
+    put_byte(out, end, NEWLINE)
+}

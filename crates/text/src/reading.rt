@@ -1,0 +1,101 @@
+use crate::copy::copy_bytes;
+use crate::copy::copy_numbers;
+use crate::first::First;
+use crate::first::first_line;
+use crate::line::Line;
+use crate::line::LineRead;
+use crate::lines::read_line;
+use crate::order::may_stand;
+use crate::store::store;
+use model::answers::Reading;
+use model::limits::EDGES;
+use model::limits::TEXT;
+use model::limits::VERTICES;
+use model::refusal::Refusal;
+ghost use mathlib.Core.Path.{_≡_};
+ghost use Prim.Native.Nat.{ℕ};
+ghost use lib.ListN.{getD};
+ghost use Rattle.model.specs.TextOutcomes.{Reads};
+ghost use Rattle.text.specs.Scratch.{Sized, ReadsInto};
+
+// Reads a text line by line into arrays, of which the syndrome's is all 0. A line that doesn't read ends the reading there.
+fn read_lines(
+    text: &[u8],
+    ends: &mut [u16; 8192],
+    marks: &mut [u8; 4096],
+    syndrome: &mut [u8; 1024],
+    loss: &mut [u8; 4096],
+) -> Reading
+    requires { ⌜ Sized (now ends) (now marks) (now syndrome) (now loss) ⌝ }
+    requires { ⌜ ((v : ℕ) → getD (now syndrome) v 0 ≡ 0) ⌝ }
+    ensures { λ r. ⌜ ReadsInto (now (text .entry)) r (now (ends .exit)) (now (marks .exit)) (now (syndrome .exit)) (now (loss .exit)) ⌝ }
+{
+    let First::Vertices {
+        count: vertices,
+        next: second,
+    } = first_line(text)
+    else {
+        return Reading::Refused(Refusal::MalformedLine(1));
+    };
+    let mut at = second;
+    let mut number = 2;
+    let mut last = Line::Vertices(vertices);
+    let mut edges = 0u16;
+    while at < text.len() {
+        let LineRead::Line { line, next } = read_line(text, at) else {
+            return Reading::Refused(Refusal::MalformedLine(number));
+        };
+        if !may_stand(last, line, vertices, edges) {
+            return Reading::Refused(Refusal::MalformedLine(number));
+        }
+        edges = store(line, edges, ends, marks, syndrome, loss);
+        last = line;
+        at = next;
+        number += 1;
+    }
+    Reading::Counts {
+        vertices: vertices as usize,
+        edges: edges as usize,
+    }
+}
+
+// Reads a text into the lent buffers and answers with both counts. It is read into arrays first, so that a refusal writes nothing.
+pub fn read(
+    text: &[u8],
+    ends: &mut [u16],
+    marks: &mut [u8],
+    syndrome: &mut [u8],
+    loss: &mut [u8],
+) -> Reading
+    ensures { λ r. ⌜ Reads (now (text .entry)) (now (ends .entry)) (now (marks .entry)) (now (syndrome .entry)) (now (loss .entry)) r (now (ends .exit)) (now (marks .exit)) (now (syndrome .exit)) (now (loss .exit)) ⌝ }
+{
+    let fit = (ends.len() == 2 * EDGES)
+        & (marks.len() == EDGES)
+        & (syndrome.len() == VERTICES)
+        & (loss.len() == EDGES);
+    if !fit {
+        return Reading::Refused(Refusal::BufferLength);
+    }
+    if TEXT < text.len() {
+        return Reading::Refused(Refusal::TextLength);
+    }
+    let mut new_ends = [0u16; 8192];
+    let mut new_marks = [0u8; 4096];
+    let mut new_syndrome = [0u8; 1024];
+    let mut new_loss = [0u8; 4096];
+    let reading = read_lines(
+        text,
+        &mut new_ends,
+        &mut new_marks,
+        &mut new_syndrome,
+        &mut new_loss,
+    );
+    let Reading::Counts { vertices, edges } = reading else {
+        return reading;
+    };
+    copy_numbers(&new_ends, 2 * edges, ends);
+    copy_bytes(&new_marks, edges, marks);
+    copy_bytes(&new_syndrome, vertices, syndrome);
+    copy_bytes(&new_loss, edges, loss);
+    reading
+}
