@@ -1,0 +1,40 @@
+// The parts of a line that a test program prints. Each only writes to standard output, of which no contract can speak.
+use libc::STDOUT_FILENO;
+use model::refusal::Refusal;
+use model::refusal::number;
+use model::refusal::place;
+
+pub fn text(bytes: &[u8]) {
+    io::write_all(STDOUT_FILENO, bytes);
+}
+
+// The start of a line: what is decoded or judged.
+pub fn name(bytes: &[u8]) {
+    text(bytes);
+    text(b": ");
+}
+
+pub fn count(n: usize) {
+    io::print_decimal(STDOUT_FILENO, n as u64);
+}
+
+fn digit(byte: u8) {
+    count(byte as usize);
+}
+
+// Each byte as a number, one after the other.
+pub fn bytes(all: &[u8]) {
+    let mut i = 0;
+    while i < all.len() {
+        digit(all[i]);
+        i += 1;
+    }
+}
+
+// A refusal: its number and its place.
+pub fn refused(refusal: Refusal) {
+    text(b"number ");
+    digit(number(refusal));
+    text(b", place ");
+    count(place(refusal));
+}
