@@ -1,0 +1,3 @@
+//! The program that the proved library is measured against.
+
+pub mod plain;

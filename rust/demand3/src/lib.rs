@@ -1,0 +1,13 @@
+//! Demand 3, held against a decoder by going through every set of edges of a small board.
+//!
+//! For each syndrome of the board: the decoder answers 10 exactly when no set of edges has it.
+//! Otherwise its correction has it, and for every set E that has it, of which s edges are not lost,
+//! and t lost edges in all: growths are at most 2s, and where every winding loop has more than
+//! t + 2s edges, E and the correction together do not wind.
+
+pub mod boards;
+pub mod exhaustive;
+pub mod wrong;
+
+pub use boards::boards;
+pub use exhaustive::{Part, Tally, Violation, hold};

@@ -1,0 +1,94 @@
+//! Holds demand 3 against the plain decoder on seeded random boards, and prints what was done.
+//!
+//! It fails where a part of the statement is broken, where a part had nothing to say, where no
+//! board shows that the bound cannot be one lower, and where a wrong decoder passes.
+
+use std::process::ExitCode;
+
+use demand3::{Tally, boards, hold, wrong};
+use reference::board::{Board, Sheet, members, size, together};
+use reference::generators::ring;
+use reference::{decode, distance};
+
+const SEED: u64 = 20;
+const BOARDS: usize = 10_000;
+
+fn main() -> ExitCode {
+    match run() {
+        Ok(()) => ExitCode::SUCCESS,
+        Err(message) => {
+            eprintln!("demand 3: {message}");
+            ExitCode::FAILURE
+        }
+    }
+}
+
+fn run() -> Result<(), String> {
+    println!("demand 3 against every set of edges, seed {SEED}");
+    let boards = boards(SEED, BOARDS);
+    let mut tally = Tally::default();
+    for (board, loss) in &boards {
+        hold(board, loss, decode, &mut tally).map_err(|broken| format!("{broken:?}"))?;
+    }
+    print(&tally);
+    if !tally.has_seen_all() {
+        return Err("a part of the statement had nothing to say".to_string());
+    }
+    show_m3()?;
+    refute_wrong_decoders(&boards)
+}
+
+fn print(tally: &Tally) {
+    let lines = [
+        (tally.boards, "boards, each with its lost edges"),
+        (tally.syndromes, "syndromes, all of each board"),
+        (tally.unmet, "of them met by no set, and exactly these are answered 10"),
+        (tally.sets, "sets E, all of each board: the correction has E's syndrome, growths <= 2s"),
+        (tally.growths_reached, "of them with growths = 2s, s above 0"),
+        (
+            tally.covered,
+            "with every winding loop above t + 2s edges, s above 0: none winds with the correction",
+        ),
+        (
+            tally.one_short,
+            "wind with the correction where every winding loop is above t + 2s - 1 edges",
+        ),
+        (tally.one_short_unlost, "of them with nothing lost"),
+    ];
+    for (count, what) in lines {
+        println!("{count:>9} {what}");
+    }
+}
+
+/// m3: the ring with all edges lost, E being its last edge alone.
+fn show_m3() -> Result<(), String> {
+    let ring = ring();
+    let sheet = Sheet::new(ring.clone(), &[0, 3], &[0, 1, 2, 3]);
+    let error = [0, 0, 0, 1];
+    let key = decode(&sheet).map_err(|refusal| format!("m3: {refusal:?}"))?;
+    let kept = members(&error).filter(|&edge| sheet.loss[edge] == 0).count();
+    let reach = size(&sheet.loss) + 2 * kept;
+    let fewest = distance::by_search(&ring).ok_or("m3: no distance")?;
+    let winds = ring.winds(&together(&error, &key.correction));
+    let correction: Vec<usize> = members(&key.correction).collect();
+    println!(
+        "m3: E = {{3}}, t + 2s = {reach}, distance {fewest}, correction {correction:?}, together they wind: {winds}"
+    );
+    let counterexample = winds && fewest > reach - 1 && ring.syndrome(&error) == sheet.syndrome;
+    if counterexample { Ok(()) } else { Err("m3 is no counterexample to t + 2s - 1".to_string()) }
+}
+
+fn refute_wrong_decoders(boards: &[(Board, Vec<u8>)]) -> Result<(), String> {
+    for (name, decoder, part) in wrong::ALL {
+        let mut ignored = Tally::default();
+        let found = boards
+            .iter()
+            .filter_map(|(board, loss)| hold(board, loss, decoder, &mut ignored).err())
+            .find(|violation| violation.part == part);
+        if found.is_none() {
+            return Err(format!("a wrong decoder passes: {name}"));
+        }
+        println!("wrong decoder found out, {name}: {part:?}");
+    }
+    Ok(())
+}

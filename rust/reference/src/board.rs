@@ -1,0 +1,102 @@
+//! Document 01, "Board and loops".
+
+/// The largest vertex count of a board.
+pub const VERTEX_LIMIT: usize = 1024;
+
+/// The largest edge count of a board.
+pub const EDGE_LIMIT: usize = 4096;
+
+/// A graph as it is lent: two ends and a mark for each edge. Nothing says that it keeps the rules.
+#[derive(Clone, Debug, PartialEq, Eq)]
+pub struct Board {
+    pub vertices: usize,
+    pub ends: Vec<u16>,
+    pub marks: Vec<u8>,
+}
+
+/// A board with its syndrome, a byte for each vertex, and its loss, a byte for each edge.
+#[derive(Clone, Debug, PartialEq, Eq)]
+pub struct Sheet {
+    pub board: Board,
+    pub syndrome: Vec<u8>,
+    pub loss: Vec<u8>,
+}
+
+impl Board {
+    /// The board with these edges, each given by its two ends and its mark.
+    pub fn new(vertices: usize, edges: &[(u16, u16, u8)]) -> Board {
+        Board {
+            vertices,
+            ends: edges.iter().flat_map(|&(a, b, _)| [a, b]).collect(),
+            marks: edges.iter().map(|&(_, _, mark)| mark).collect(),
+        }
+    }
+
+    /// The number of edges.
+    pub fn edges(&self) -> usize {
+        self.ends.len() / 2
+    }
+
+    /// The two ends of an edge.
+    pub fn ends_of(&self, edge: usize) -> [usize; 2] {
+        [self.ends[2 * edge].into(), self.ends[2 * edge + 1].into()]
+    }
+
+    /// The syndrome of an edge set: the vertices touching an odd number of its edges.
+    pub fn syndrome(&self, set: &[u8]) -> Vec<u8> {
+        let mut syndrome = vec![0; self.vertices];
+        for edge in members(set) {
+            for end in self.ends_of(edge) {
+                syndrome[end] ^= 1;
+            }
+        }
+        syndrome
+    }
+
+    /// The exclusive or of a set's marks.
+    pub fn crossings(&self, set: &[u8]) -> u8 {
+        members(set).fold(0, |sum, edge| sum ^ self.marks[edge])
+    }
+
+    /// An edge set is closed if its syndrome is empty.
+    pub fn is_closed(&self, set: &[u8]) -> bool {
+        size(&self.syndrome(set)) == 0
+    }
+
+    /// It winds if it is closed and the exclusive or of its marks isn't 0.
+    pub fn winds(&self, set: &[u8]) -> bool {
+        self.is_closed(set) && self.crossings(set) != 0
+    }
+}
+
+impl Sheet {
+    /// The sheet with these syndrome vertices and lost edges.
+    pub fn new(board: Board, lit: &[usize], lost: &[usize]) -> Sheet {
+        Sheet { syndrome: set_of(board.vertices, lit), loss: set_of(board.edges(), lost), board }
+    }
+}
+
+/// Two sets together: an edge in both cancels.
+pub fn together(a: &[u8], b: &[u8]) -> Vec<u8> {
+    assert_eq!(a.len(), b.len());
+    a.iter().zip(b).map(|(x, y)| x ^ y).collect()
+}
+
+/// How many members a set has.
+pub fn size(set: &[u8]) -> usize {
+    members(set).count()
+}
+
+/// The members of a set, rising.
+pub fn members(set: &[u8]) -> impl Iterator<Item = usize> + '_ {
+    (0..set.len()).filter(|&i| set[i] == 1)
+}
+
+/// The set of the numbers on a list, as a byte for each number below `count`.
+pub fn set_of(count: usize, list: &[usize]) -> Vec<u8> {
+    let mut set = vec![0; count];
+    for &i in list {
+        set[i] = 1;
+    }
+    set
+}

@@ -1,0 +1,184 @@
+//! Boards and sheets that decoders are tried on.
+
+use crate::board::{Board, Sheet};
+use crate::random::Random;
+use crate::text;
+use crate::torus::torus;
+
+/// A kind of random board.
+#[derive(Clone, Copy, Debug, PartialEq, Eq)]
+pub enum Kind {
+    /// A few vertices and edges, each edge anywhere.
+    Small,
+    /// Few vertices and many edges, so that most pairs are joined.
+    Dense,
+    /// Two to four vertices, so that most edges have edges beside them.
+    Parallel,
+    /// Vertices in groups, with no edge between two groups.
+    Parts,
+    /// A cycle with some chords and few marks, so that the distance is large for its size.
+    Cycle,
+    /// A torus of a small side.
+    Torus,
+    /// A path, its vertices numbered at random.
+    Path,
+    /// A star, its vertices numbered at random.
+    Star,
+    /// Some dozens of vertices.
+    Medium,
+}
+
+impl Kind {
+    pub const ALL: [Kind; 9] = [
+        Kind::Small,
+        Kind::Dense,
+        Kind::Parallel,
+        Kind::Parts,
+        Kind::Cycle,
+        Kind::Torus,
+        Kind::Path,
+        Kind::Star,
+        Kind::Medium,
+    ];
+
+    /// A random board of this kind.
+    pub fn board(self, random: &mut Random) -> Board {
+        match self {
+            Kind::Small => anywhere(random, (1, 8), (0, 14)),
+            Kind::Dense => anywhere(random, (3, 12), (20, 80)),
+            Kind::Parallel => anywhere(random, (2, 4), (2, 16)),
+            Kind::Parts => parts(random),
+            Kind::Cycle => {
+                let vertices = random.from_to(3, 14);
+                let chords = random.from_to(0, 3);
+                cycle(random, vertices, chords)
+            }
+            Kind::Torus => torus(random.from_to(2, 6)),
+            Kind::Path => {
+                let vertices = random.from_to(2, 40);
+                renumbered(random, &path(vertices))
+            }
+            Kind::Star => {
+                let vertices = random.from_to(2, 40);
+                renumbered(random, &star(vertices))
+            }
+            Kind::Medium => anywhere(random, (20, 60), (20, 120)),
+        }
+    }
+}
+
+/// So many vertices and edges, each within its range, every edge between any two vertices.
+fn anywhere(random: &mut Random, vertices: (usize, usize), edges: (usize, usize)) -> Board {
+    let vertices = random.from_to(vertices.0, vertices.1);
+    let edges = if vertices == 1 { 0 } else { random.from_to(edges.0, edges.1) };
+    let list: Vec<_> = (0..edges).map(|_| edge(random, 0, vertices)).collect();
+    Board::new(vertices, &list)
+}
+
+/// An edge between two of `count` vertices from `first`, with any mark.
+fn edge(random: &mut Random, first: usize, count: usize) -> (u16, u16, u8) {
+    let a = random.below(count);
+    let b = (a + random.from_to(1, count - 1)) % count;
+    ((first + a) as u16, (first + b) as u16, random.below(4) as u8)
+}
+
+fn parts(random: &mut Random) -> Board {
+    let groups = random.from_to(2, 5);
+    let mut vertices = 0;
+    let mut edges = Vec::new();
+    for _ in 0..groups {
+        let count = random.from_to(1, 6);
+        let inside = if count == 1 { 0 } else { random.from_to(0, 8) };
+        edges.extend((0..inside).map(|_| edge(random, vertices, count)));
+        vertices += count;
+    }
+    renumbered(random, &Board::new(vertices, &edges))
+}
+
+/// A cycle through all vertices, one of its edges marked, with further edges that have no mark.
+pub fn cycle(random: &mut Random, vertices: usize, chords: usize) -> Board {
+    let marked = random.below(vertices);
+    let around = |at: usize| {
+        let mark = if at == marked { 1 } else { 0 };
+        (at as u16, ((at + 1) % vertices) as u16, mark)
+    };
+    let mut edges: Vec<_> = (0..vertices).map(around).collect();
+    for _ in 0..chords {
+        let (a, b, _) = edge(random, 0, vertices);
+        edges.push((a, b, 0));
+    }
+    renumbered(random, &Board::new(vertices, &edges))
+}
+
+/// The ring of document 01: four vertices, the last edge crossing line A.
+pub fn ring() -> Board {
+    Board::new(4, &[(0, 1, 0), (1, 2, 0), (2, 3, 0), (3, 0, 1)])
+}
+
+/// The path 0, 1, 2, .. with no marks.
+pub fn path(vertices: usize) -> Board {
+    let edges: Vec<_> = (1..vertices).map(|v| (v as u16 - 1, v as u16, 0)).collect();
+    Board::new(vertices, &edges)
+}
+
+/// The star around vertex 0 with no marks.
+pub fn star(vertices: usize) -> Board {
+    let edges: Vec<_> = (1..vertices).map(|v| (0, v as u16, 0)).collect();
+    Board::new(vertices, &edges)
+}
+
+/// So many vertices and edges, every edge between any two vertices: for the limits.
+pub fn crowd(random: &mut Random, vertices: usize, edges: usize) -> Board {
+    anywhere(random, (vertices, vertices), (edges, edges))
+}
+
+/// A sheet at the limits whose text has so many bytes, some 60,000 to 80,000. Each edge's line has 14
+/// bytes, and the line of a lost edge 4 to 7 by the number of its digits.
+pub fn sheet_of_bytes(bytes: usize) -> Sheet {
+    let board = Board::new(1024, &vec![(1000, 1023, 0); 4096]);
+    let missing = |lost: &[usize]| {
+        let sheet = Sheet::new(board.clone(), &[], lost);
+        bytes - text::write(&sheet).len()
+    };
+    let few: [&[usize]; 7] = [&[], &[0, 1], &[0, 10], &[0, 100], &[0], &[10], &[100]];
+    let mut lost = few[missing(&[]) % 7].to_vec();
+    lost.extend(1000..1000 + missing(&lost) / 7);
+    assert_eq!(missing(&lost), 0);
+    Sheet::new(board, &[], &lost)
+}
+
+/// The same board with its vertices and its edges in another order, and edges turned about.
+fn renumbered(random: &mut Random, board: &Board) -> Board {
+    let name = order(random, board.vertices);
+    let mut edges = Vec::new();
+    for edge in order(random, board.edges()) {
+        let [a, b] = board.ends_of(edge).map(|end| name[end] as u16);
+        let mark = board.marks[edge];
+        edges.push(if random.chance(500) { (a, b, mark) } else { (b, a, mark) });
+    }
+    Board::new(board.vertices, &edges)
+}
+
+/// The numbers below `count` in a random order.
+fn order(random: &mut Random, count: usize) -> Vec<usize> {
+    let mut order: Vec<usize> = (0..count).collect();
+    for i in 1..count {
+        order.swap(i, random.from_to(0, i));
+    }
+    order
+}
+
+/// The board with random lost edges and the syndrome of a random set of edges, often few of each,
+/// and now and then with any syndrome at all, which may leave parts odd.
+pub fn sheet(random: &mut Random, board: Board) -> Sheet {
+    let edges = board.edges();
+    let rate = [0, 50, 200, 500, 1000][random.below(5)];
+    let loss = random.set(edges, rate);
+    let rate = [20, 100, 300, 500][random.below(4)];
+    let syndrome = if random.chance(850) {
+        board.syndrome(&random.set(edges, rate))
+    } else {
+        random.set(board.vertices, rate)
+    };
+    Sheet { board, syndrome, loss }
+}

@@ -1,0 +1,26 @@
+//! A plain decoder, written from document 01's steps and sharing nothing with the proved one.
+//!
+//! Nothing here is clever or fast: each section of document 01 is one module, in its words. Beside
+//! them stand a seeded generator of random numbers and the boards that decoders are tried on.
+//!
+//! A set of vertices or edges is a slice with a byte for each, 0 or 1, as the calls are lent it.
+
+pub mod board;
+pub mod components;
+pub mod damage;
+pub mod decoding;
+pub mod distance;
+pub mod generators;
+pub mod growth;
+pub mod peeling;
+pub mod program;
+pub mod random;
+pub mod refusal;
+pub mod text;
+pub mod torus;
+pub mod verdict;
+
+pub use board::{Board, Sheet};
+pub use decoding::{Key, decode};
+pub use random::Random;
+pub use refusal::Refusal;

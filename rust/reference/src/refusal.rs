@@ -1,0 +1,116 @@
+//! Document 01, "Numbers and places": the tests of each call, in the order of their numbers.
+
+use crate::board::{Board, EDGE_LIMIT, Sheet, VERTEX_LIMIT};
+
+/// Why a call refuses: the number of the rule that is broken, and where.
+#[derive(Clone, Copy, Debug, PartialEq, Eq)]
+pub struct Refusal {
+    pub number: u8,
+    pub place: u64,
+}
+
+/// A test passes or refuses.
+pub type Test = Result<(), Refusal>;
+
+/// Number 10, "no correction".
+pub const NO_CORRECTION: u8 = 10;
+
+/// Refuses with this number and place.
+pub fn refuse<T>(number: u8, place: usize) -> Result<T, Refusal> {
+    let place = place as u64;
+    Err(Refusal { number, place })
+}
+
+fn unless(kept: bool, number: u8, place: usize) -> Test {
+    if kept { Ok(()) } else { refuse(number, place) }
+}
+
+/// Refuses at the first place below `count` that breaks the rule.
+fn first_place(number: u8, count: usize, broken: impl Fn(usize) -> bool) -> Test {
+    match (0..count).find(|&place| broken(place)) {
+        Some(place) => refuse(number, place),
+        None => Ok(()),
+    }
+}
+
+/// Numbers 1, 2 and 3: the counts, and the lengths of all other buffers that are lent, each given
+/// with the length that it must have.
+fn counts(board: &Board, lengths: &[(usize, usize)]) -> Test {
+    let ends = board.ends.len();
+    unless((1..=VERTEX_LIMIT).contains(&board.vertices), 1, 0)?;
+    unless(ends.is_multiple_of(2) && ends <= 2 * EDGE_LIMIT, 2, 0)?;
+    buffer_lengths(lengths)
+}
+
+fn buffer_lengths(lengths: &[(usize, usize)]) -> Test {
+    unless(lengths.iter().all(|(is, must)| is == must), 3, 0)
+}
+
+/// Numbers 4, 5 and 6: the edges.
+fn edges(board: &Board) -> Test {
+    let ends = |edge| board.ends_of(edge);
+    let count = board.edges();
+    first_place(4, count, |edge| ends(edge).iter().any(|&end| end >= board.vertices))?;
+    first_place(5, count, |edge| ends(edge)[0] == ends(edge)[1])?;
+    first_place(6, count, |edge| board.marks[edge] > 3)
+}
+
+/// Numbers 7, 8 and 9: a byte above 1.
+fn bytes(number: u8, lent: &[u8]) -> Test {
+    first_place(number, lent.len(), |place| lent[place] > 1)
+}
+
+/// Numbers 1 to 8 of a call that is lent a sheet and further buffers of so many bytes, which must
+/// have one for each edge.
+fn sheet(sheet: &Sheet, further: &[usize]) -> Test {
+    let Sheet { board, syndrome, loss } = sheet;
+    let count = board.edges();
+    let mut lengths =
+        vec![(board.marks.len(), count), (syndrome.len(), board.vertices), (loss.len(), count)];
+    lengths.extend(further.iter().map(|&length| (length, count)));
+    counts(board, &lengths)?;
+    edges(board)?;
+    bytes(7, syndrome)?;
+    bytes(8, loss)
+}
+
+/// The tests of decoding, which is lent buffers of these lengths to fill; all but number 10.
+pub fn decoding(lent: &Sheet, support: usize, correction: usize) -> Test {
+    sheet(lent, &[support, correction])
+}
+
+/// The tests of the verdict; all but number 10.
+pub fn verdict(lent: &Sheet, handed: &[u8]) -> Test {
+    sheet(lent, &[handed.len()])?;
+    bytes(9, handed)
+}
+
+/// The tests of the distance, which is lent a buffer of this length to fill.
+pub fn distance(board: &Board, shown: usize) -> Test {
+    let count = board.edges();
+    counts(board, &[(board.marks.len(), count), (shown, count)])?;
+    edges(board)
+}
+
+/// The tests of the torus builder, which is lent buffers of these lengths to fill. The lengths are
+/// tested only once the side is in range.
+pub fn torus(side: u32, ends: usize, marks: usize) -> Test {
+    let side = side as usize;
+    unless((2..=32).contains(&side), 11, side)?;
+    buffer_lengths(&[(ends, 4 * side * side), (marks, 2 * side * side)])
+}
+
+/// The tests of the reader on the buffers that it is lent to fill.
+pub fn reader(ends: usize, marks: usize, syndrome: usize, loss: usize) -> Test {
+    buffer_lengths(&[
+        (ends, 2 * EDGE_LIMIT),
+        (marks, EDGE_LIMIT),
+        (syndrome, VERTEX_LIMIT),
+        (loss, EDGE_LIMIT),
+    ])
+}
+
+/// The tests of the writer on the sheet that it is lent.
+pub fn writer(lent: &Sheet) -> Test {
+    sheet(lent, &[])
+}

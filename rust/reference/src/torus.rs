@@ -1,0 +1,25 @@
+//! Document 01, "Distance and torus": the torus of a side.
+
+use crate::board::Board;
+use crate::refusal::{self, Refusal};
+
+/// The torus of this side, or a refusal; the buffers lent for ends and marks have these lengths.
+pub fn torus_into(side: u32, ends: usize, marks: usize) -> Result<Board, Refusal> {
+    refusal::torus(side, ends, marks)?;
+    Ok(torus(side as usize))
+}
+
+/// The torus of a side in range.
+pub fn torus(side: usize) -> Board {
+    let vertex = |row: usize, column: usize| (row % side * side + column % side) as u16;
+    let mut edges = Vec::new();
+    for row in 0..side {
+        for column in 0..side {
+            let here = vertex(row, column);
+            let last = side - 1;
+            edges.push((here, vertex(row, column + 1), if column == last { 1 } else { 0 }));
+            edges.push((here, vertex(row + 1, column), if row == last { 2 } else { 0 }));
+        }
+    }
+    Board::new(side * side, &edges)
+}

@@ -1,0 +1,47 @@
+//! The generators give boards that keep the rules, and sheets of every kind of outcome.
+
+use reference::board::size;
+use reference::generators::{Kind, sheet};
+use reference::refusal::NO_CORRECTION;
+use reference::{Random, decode};
+
+#[test]
+fn every_kind_keeps_the_rules() {
+    let mut random = Random::new(4);
+    for kind in Kind::ALL {
+        let (mut grown, mut still, mut refused, mut lost) = (0, 0, 0, 0);
+        for _ in 0..300 {
+            let board = kind.board(&mut random);
+            let sheet = sheet(&mut random, board);
+            lost += size(&sheet.loss);
+            match decode(&sheet) {
+                Ok(key) if key.growths > 0 => grown += 1,
+                Ok(_) => still += 1,
+                Err(refusal) => {
+                    assert_eq!(refusal.number, NO_CORRECTION, "{sheet:?}");
+                    refused += 1;
+                }
+            }
+        }
+        let seen = [grown, still, refused, lost];
+        assert!(seen.iter().all(|&count| count > 0), "{kind:?}: {seen:?}");
+    }
+}
+
+#[test]
+fn same_seed_same_boards() {
+    let boards = |seed| -> Vec<_> {
+        let mut random = Random::new(seed);
+        Kind::ALL.iter().map(|kind| kind.board(&mut random)).collect()
+    };
+    assert_eq!(boards(5), boards(5));
+    assert_ne!(boards(5), boards(6));
+}
+
+#[test]
+fn sets_of_a_size() {
+    let mut random = Random::new(7);
+    for size_asked in 0..=20 {
+        assert_eq!(size(&random.set_of_size(20, size_asked)), size_asked);
+    }
+}

@@ -1,0 +1,84 @@
+//! Document 01, "Numbers and places": the smallest number wins, then the smallest place.
+
+use reference::board::{Board, Sheet};
+use reference::decoding::decode_into;
+use reference::distance::distance_into;
+use reference::generators::{path, ring};
+use reference::refusal::{Refusal, reader};
+use reference::torus::torus_into;
+use reference::verdict::{Verdict, verdict};
+
+fn refused<T: std::fmt::Debug>(answer: Result<T, Refusal>) -> (u8, u64) {
+    let Refusal { number, place } = answer.expect_err("a refusal");
+    (number, place)
+}
+
+/// A sheet that breaks every rule from 4 on, each at its second edge or vertex or later.
+fn broken() -> Sheet {
+    let board = Board::new(3, &[(0, 1, 0), (0, 3, 4), (2, 2, 4), (3, 3, 0)]);
+    Sheet { board, syndrome: vec![0, 2, 2], loss: vec![0, 1, 3, 3] }
+}
+
+#[test]
+fn smallest_number_then_smallest_place() {
+    let mut sheet = broken();
+    assert_eq!(refused(decode_into(&sheet, 4, 4)), (4, 1));
+    assert_eq!(refused(decode_into(&sheet, 5, 4)), (3, 0));
+    assert_eq!(refused(distance_into(&sheet.board, 4)), (4, 1));
+    sheet.board.ends[3] = 2;
+    sheet.board.ends[6] = 1;
+    sheet.board.ends[7] = 1;
+    assert_eq!(refused(decode_into(&sheet, 4, 4)), (5, 2));
+    sheet.board.ends[5] = 0;
+    sheet.board.ends[7] = 0;
+    assert_eq!(refused(decode_into(&sheet, 4, 4)), (6, 1));
+    sheet.board.marks = vec![3; 4];
+    assert_eq!(refused(decode_into(&sheet, 4, 4)), (7, 1));
+    assert_eq!(refused(verdict(&sheet, &[2; 4])), (7, 1));
+    assert_eq!(distance_into(&sheet.board, 4), Ok(None));
+    sheet.syndrome = vec![0, 1, 0];
+    assert_eq!(refused(verdict(&sheet, &[2; 4])), (8, 2));
+    sheet.loss = vec![0; 4];
+    assert_eq!(refused(verdict(&sheet, &[0, 0, 0, 2])), (9, 3));
+    assert_eq!(refused(verdict(&sheet, &[0; 4])), (10, 0));
+    assert_eq!(refused(decode_into(&sheet, 4, 4)), (10, 0));
+    sheet.board.ends.pop();
+    assert_eq!(refused(decode_into(&sheet, 4, 4)), (2, 0));
+    sheet.board.vertices = 0;
+    assert_eq!(refused(decode_into(&sheet, 4, 4)), (1, 0));
+}
+
+#[test]
+fn verdicts() {
+    let sheet = Sheet::new(ring(), &[0, 3], &[]);
+    assert_eq!(verdict(&sheet, &[0, 0, 0, 1]), Ok(Verdict::Same));
+    assert_eq!(verdict(&sheet, &[1, 1, 1, 0]), Ok(Verdict::Wound(1)));
+    assert_eq!(verdict(&sheet, &[0, 1, 1, 0]), Ok(Verdict::Off(0)));
+    assert_eq!(verdict(&sheet, &[1, 1, 0, 0]), Ok(Verdict::Off(2)));
+}
+
+#[test]
+fn limits() {
+    let sheet = |vertices| Sheet::new(Board::new(vertices, &[]), &[], &[]);
+    assert!(decode_into(&sheet(1024), 0, 0).is_ok());
+    assert_eq!(refused(decode_into(&sheet(1025), 0, 0)), (1, 0));
+    let parallel = |edges| Sheet::new(Board::new(2, &vec![(0, 1, 0); edges]), &[], &[]);
+    assert!(decode_into(&parallel(4096), 4096, 4096).is_ok());
+    assert_eq!(refused(decode_into(&parallel(4097), 4097, 4097)), (2, 0));
+    assert_eq!(refused(decode_into(&Sheet::new(path(3), &[], &[]), 2, 1)), (3, 0));
+}
+
+#[test]
+fn torus_sides_and_reader_lengths() {
+    for side in [2, 32] {
+        let edges = 2 * (side * side) as usize;
+        assert!(torus_into(side, 2 * edges, edges).is_ok());
+        assert_eq!(refused(torus_into(side, 2 * edges, edges + 1)), (3, 0));
+    }
+    for side in [0, 1, 33, u32::MAX] {
+        assert_eq!(refused(torus_into(side, 0, 0)), (11, side.into()));
+    }
+    assert_eq!(reader(8192, 4096, 1024, 4096), Ok(()));
+    assert_eq!(refused(reader(8192, 4096, 1024, 4095)), (3, 0));
+    assert_eq!(refused(reader(8190, 4096, 1024, 4096)), (3, 0));
+}

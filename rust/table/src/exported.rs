@@ -1,0 +1,82 @@
+//! The functions of the static library, as `include/surface_table.h` declares them.
+//!
+//! A slice is a pointer and a count of elements. The library tests all that it is lent except what
+//! no code could test: that pointers are valid for their counts, and that no buffer that is written
+//! overlaps another.
+
+unsafe extern "C" {
+    pub fn surface_decode(
+        vertices: usize,
+        ends: *const u16,
+        ends_count: usize,
+        marks: *const u8,
+        marks_count: usize,
+        syndrome: *const u8,
+        syndrome_count: usize,
+        loss: *const u8,
+        loss_count: usize,
+        support: *mut u8,
+        support_count: usize,
+        correction: *mut u8,
+        correction_count: usize,
+    ) -> u64;
+
+    pub fn surface_verdict(
+        vertices: usize,
+        ends: *const u16,
+        ends_count: usize,
+        marks: *const u8,
+        marks_count: usize,
+        syndrome: *const u8,
+        syndrome_count: usize,
+        loss: *const u8,
+        loss_count: usize,
+        handed: *const u8,
+        handed_count: usize,
+    ) -> u64;
+
+    pub fn surface_distance(
+        vertices: usize,
+        ends: *const u16,
+        ends_count: usize,
+        marks: *const u8,
+        marks_count: usize,
+        shown: *mut u8,
+        shown_count: usize,
+    ) -> u64;
+
+    pub fn surface_torus(
+        side: u32,
+        ends: *mut u16,
+        ends_count: usize,
+        marks: *mut u8,
+        marks_count: usize,
+    ) -> u64;
+
+    pub fn surface_read(
+        text: *const u8,
+        text_count: usize,
+        ends: *mut u16,
+        ends_count: usize,
+        marks: *mut u8,
+        marks_count: usize,
+        syndrome: *mut u8,
+        syndrome_count: usize,
+        loss: *mut u8,
+        loss_count: usize,
+    ) -> u64;
+
+    pub fn surface_write(
+        vertices: usize,
+        ends: *const u16,
+        ends_count: usize,
+        marks: *const u8,
+        marks_count: usize,
+        syndrome: *const u8,
+        syndrome_count: usize,
+        loss: *const u8,
+        loss_count: usize,
+        text: *mut u8,
+        text_count: usize,
+    ) -> u64;
+}

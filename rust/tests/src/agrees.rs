@@ -1,0 +1,304 @@
+//! One call of the library, compared with the plain decoder in all that can be seen of it.
+//!
+//! Buffers to be filled hold noise before the call, so that what a refusal leaves, and what a call
+//! must not touch, shows.
+
+use reference::board::{Board, Sheet, size};
+use reference::decoding::{decode_into, odd_parts};
+use reference::distance::distance_into;
+use reference::refusal::{self, NO_CORRECTION};
+use reference::text::{self, write_into};
+use reference::torus::torus_into;
+use reference::verdict::{self as plain_verdict, Verdict as PlainVerdict};
+use reference::{Key, Refusal as PlainRefusal};
+use table::{Built, Decoded, Distance, Reading, Refusal, Verdict, Written};
+
+use crate::guarded::Guarded;
+
+const BYTE_GUARD: u8 = 0xa5;
+const END_GUARD: u16 = 0xa5c3;
+
+/// What a buffer of bytes holds before the call.
+fn noise(count: usize) -> Vec<u8> {
+    (0..count).map(|i| (i * 37 + 101) as u8).collect()
+}
+
+/// What a buffer of ends holds before the call.
+fn end_noise(count: usize) -> Vec<u16> {
+    (0..count).map(|i| (i * 7919 + 40_503) as u16).collect()
+}
+
+/// The buffers of a sheet, lent to be read.
+struct LentSheet<'a> {
+    sheet: &'a Sheet,
+    ends: Guarded<u16>,
+    marks: Guarded<u8>,
+    syndrome: Guarded<u8>,
+    loss: Guarded<u8>,
+}
+
+impl LentSheet<'_> {
+    fn new(sheet: &Sheet) -> LentSheet<'_> {
+        LentSheet {
+            sheet,
+            ends: Guarded::new(&sheet.board.ends, END_GUARD),
+            marks: Guarded::new(&sheet.board.marks, BYTE_GUARD),
+            syndrome: Guarded::new(&sheet.syndrome, BYTE_GUARD),
+            loss: Guarded::new(&sheet.loss, BYTE_GUARD),
+        }
+    }
+
+    fn lent(&mut self) -> table::Sheet<'_> {
+        table::Sheet {
+            board: table::Board {
+                vertices: self.sheet.board.vertices,
+                ends: self.ends.lent(),
+                marks: self.marks.lent(),
+            },
+            syndrome: self.syndrome.lent(),
+            loss: self.loss.lent(),
+        }
+    }
+
+    fn returned(self) {
+        self.ends.returned_unchanged(&self.sheet.board.ends);
+        self.marks.returned_unchanged(&self.sheet.board.marks);
+        self.syndrome.returned_unchanged(&self.sheet.syndrome);
+        self.loss.returned_unchanged(&self.sheet.loss);
+    }
+}
+
+/// Whether the library may answer with this refusal where the plain decoder answers with that one:
+/// the same, or for number 10 any vertex of any odd part.
+fn may_refuse(sheet: &Sheet, refusal: Refusal, plain: PlainRefusal) -> bool {
+    if plain.number == NO_CORRECTION {
+        let odd = odd_parts(&sheet.board, &sheet.syndrome);
+        let in_odd_part = odd.get(refusal.place as usize) == Some(&1);
+        return refusal.number == NO_CORRECTION && in_odd_part;
+    }
+    is_refusal(refusal, plain)
+}
+
+fn is_refusal(refusal: Refusal, plain: PlainRefusal) -> bool {
+    (refusal.number, refusal.place) == (plain.number, plain.place)
+}
+
+/// Decoding with buffers of these lengths to fill.
+pub fn decode_with(sheet: &Sheet, support: usize, correction: usize) -> Result<Key, Refusal> {
+    let mut lent = LentSheet::new(sheet);
+    let before = (noise(support), noise(correction));
+    let mut support_bytes = Guarded::new(&before.0, BYTE_GUARD);
+    let mut correction_bytes = Guarded::new(&before.1, BYTE_GUARD);
+    let answer = table::decode(lent.lent(), support_bytes.lent(), correction_bytes.lent());
+    lent.returned();
+    let after = (support_bytes.returned(), correction_bytes.returned());
+    match (answer, decode_into(sheet, support, correction)) {
+        (Decoded::Key { growths, edges }, Ok(key)) => {
+            assert_eq!((growths, edges), (key.growths, key.edges()), "{sheet:?}");
+            assert_eq!(after, (key.support.clone(), key.correction.clone()), "{sheet:?}");
+            Ok(key)
+        }
+        (Decoded::Refused(refusal), Err(plain)) => {
+            assert!(may_refuse(sheet, refusal, plain), "{refusal:?}, not {plain:?}: {sheet:?}");
+            assert_eq!(after, before, "a refusal wrote: {sheet:?}");
+            Err(refusal)
+        }
+        (answer, plain) => panic!("{answer:?}, not {plain:?}: {sheet:?}"),
+    }
+}
+
+/// Decoding with buffers of the right lengths to fill.
+pub fn decode(sheet: &Sheet) -> Result<Key, Refusal> {
+    let edges = sheet.board.edges();
+    decode_with(sheet, edges, edges)
+}
+
+/// The verdict on a handed-in set.
+pub fn verdict(sheet: &Sheet, handed: &[u8]) -> Verdict {
+    let mut lent = LentSheet::new(sheet);
+    let mut handed_bytes = Guarded::new(handed, BYTE_GUARD);
+    let answer = table::verdict(lent.lent(), handed_bytes.lent());
+    lent.returned();
+    handed_bytes.returned_unchanged(handed);
+    let plain = plain_verdict::verdict(sheet, handed);
+    let agrees = match (answer, plain) {
+        (Verdict::Off(vertex), Ok(PlainVerdict::Off(plain))) => vertex == plain,
+        (Verdict::Same, Ok(PlainVerdict::Same)) => true,
+        (Verdict::Wound(marks), Ok(PlainVerdict::Wound(plain))) => marks == plain,
+        (Verdict::Refused(refusal), Err(plain)) => may_refuse(sheet, refusal, plain),
+        _ => false,
+    };
+    assert!(agrees, "{answer:?}, not {plain:?}: {handed:?} on {sheet:?}");
+    answer
+}
+
+/// The distance with a buffer of this length to fill.
+pub fn distance_with(board: &Board, shown: usize) -> Result<Option<usize>, Refusal> {
+    let mut ends = Guarded::new(&board.ends, END_GUARD);
+    let mut marks = Guarded::new(&board.marks, BYTE_GUARD);
+    let before = noise(shown);
+    let mut shown_bytes = Guarded::new(&before, BYTE_GUARD);
+    let lent = table::Board { vertices: board.vertices, ends: ends.lent(), marks: marks.lent() };
+    let answer = table::distance(lent, shown_bytes.lent());
+    ends.returned_unchanged(&board.ends);
+    marks.returned_unchanged(&board.marks);
+    let after = shown_bytes.returned();
+    match (answer, distance_into(board, shown)) {
+        (Distance::Fewest(fewest), Ok(Some(plain))) => {
+            assert_eq!(fewest, plain, "{board:?}");
+            assert!(after.iter().all(|&byte| byte <= 1), "{after:?} on {board:?}");
+            assert!(size(&after) == fewest && board.winds(&after), "{after:?} on {board:?}");
+            Ok(Some(fewest))
+        }
+        (Distance::Nothing, Ok(None)) => {
+            assert_eq!(after, vec![0; shown], "{board:?}");
+            Ok(None)
+        }
+        (Distance::Refused(refusal), Err(plain)) => {
+            assert!(is_refusal(refusal, plain), "{refusal:?}, not {plain:?}: {board:?}");
+            assert_eq!(after, before, "a refusal wrote: {board:?}");
+            Err(refusal)
+        }
+        (answer, plain) => panic!("{answer:?}, not {plain:?}: {board:?}"),
+    }
+}
+
+/// The distance with a buffer of the right length to fill.
+pub fn distance(board: &Board) -> Result<Option<usize>, Refusal> {
+    distance_with(board, board.edges())
+}
+
+/// The torus of a side with buffers of these lengths to fill.
+pub fn torus_with(side: u32, ends: usize, marks: usize) -> Result<Board, Refusal> {
+    let before = (end_noise(ends), noise(marks));
+    let mut ends_filled = Guarded::new(&before.0, END_GUARD);
+    let mut marks_filled = Guarded::new(&before.1, BYTE_GUARD);
+    let answer = table::torus(side, ends_filled.lent(), marks_filled.lent());
+    let after = (ends_filled.returned(), marks_filled.returned());
+    match (answer, torus_into(side, ends, marks)) {
+        (Built::Vertices(vertices), Ok(board)) => {
+            assert_eq!(vertices, board.vertices, "side {side}");
+            assert_eq!(after, (board.ends.clone(), board.marks.clone()), "side {side}");
+            Ok(board)
+        }
+        (Built::Refused(refusal), Err(plain)) => {
+            assert!(is_refusal(refusal, plain), "{refusal:?}, not {plain:?}: side {side}");
+            assert_eq!(after, before, "a refusal wrote: side {side}");
+            Err(refusal)
+        }
+        (answer, plain) => panic!("{answer:?}, not {plain:?}: side {side}"),
+    }
+}
+
+/// Lengths of the buffers that the reader fills.
+#[derive(Clone, Copy, Debug, PartialEq, Eq)]
+pub struct Lengths {
+    pub ends: usize,
+    pub marks: usize,
+    pub syndrome: usize,
+    pub loss: usize,
+}
+
+impl Lengths {
+    /// The lengths that the reader asks for.
+    pub const RIGHT: Lengths = Lengths { ends: 8192, marks: 4096, syndrome: 1024, loss: 4096 };
+}
+
+/// What the buffers hold that the reader fills.
+#[derive(PartialEq)]
+struct Filled {
+    ends: Vec<u16>,
+    marks: Vec<u8>,
+    syndrome: Vec<u8>,
+    loss: Vec<u8>,
+}
+
+impl Filled {
+    fn noise(lengths: Lengths) -> Filled {
+        Filled {
+            ends: end_noise(lengths.ends),
+            marks: noise(lengths.marks),
+            syndrome: noise(lengths.syndrome),
+            loss: noise(lengths.loss),
+        }
+    }
+
+    /// The sheet at the front, the rest as it was.
+    fn with(mut self, sheet: &Sheet) -> Filled {
+        self.ends[..sheet.board.ends.len()].copy_from_slice(&sheet.board.ends);
+        self.marks[..sheet.board.marks.len()].copy_from_slice(&sheet.board.marks);
+        self.syndrome[..sheet.syndrome.len()].copy_from_slice(&sheet.syndrome);
+        self.loss[..sheet.loss.len()].copy_from_slice(&sheet.loss);
+        self
+    }
+}
+
+/// Reading a text into buffers of these lengths.
+pub fn read_with(input: &[u8], lengths: Lengths) -> Result<Sheet, Refusal> {
+    let mut text_bytes = Guarded::new(input, BYTE_GUARD);
+    let before = Filled::noise(lengths);
+    let mut ends = Guarded::new(&before.ends, END_GUARD);
+    let mut marks = Guarded::new(&before.marks, BYTE_GUARD);
+    let mut syndrome = Guarded::new(&before.syndrome, BYTE_GUARD);
+    let mut loss = Guarded::new(&before.loss, BYTE_GUARD);
+    let answer =
+        table::read(text_bytes.lent(), ends.lent(), marks.lent(), syndrome.lent(), loss.lent());
+    text_bytes.returned_unchanged(input);
+    let after = Filled {
+        ends: ends.returned(),
+        marks: marks.returned(),
+        syndrome: syndrome.returned(),
+        loss: loss.returned(),
+    };
+    let Lengths { ends, marks, syndrome, loss } = lengths;
+    let plain = refusal::reader(ends, marks, syndrome, loss).and_then(|()| text::read(input));
+    let shown = String::from_utf8_lossy(input);
+    match (answer, plain) {
+        (Reading::Counts { vertices, edges }, Ok(sheet)) => {
+            let counts = (sheet.board.vertices, sheet.board.edges());
+            assert_eq!((vertices, edges), counts, "{shown:?}");
+            assert!(after == before.with(&sheet), "other contents than the text's: {shown:?}");
+            Ok(sheet)
+        }
+        (Reading::Refused(refusal), Err(plain)) => {
+            assert!(is_refusal(refusal, plain), "{refusal:?}, not {plain:?}: {shown:?}");
+            assert!(after == before, "a refusal wrote: {shown:?}");
+            Err(refusal)
+        }
+        (answer, plain) => panic!("{answer:?}, not {plain:?}: {shown:?}"),
+    }
+}
+
+/// Reading a text into buffers of the right lengths.
+pub fn read(input: &[u8]) -> Result<Sheet, Refusal> {
+    read_with(input, Lengths::RIGHT)
+}
+
+/// Writing a sheet's text into a buffer of this length.
+pub fn write_with(sheet: &Sheet, length: usize) -> Result<Vec<u8>, Refusal> {
+    let mut lent = LentSheet::new(sheet);
+    let before = noise(length);
+    let mut text_bytes = Guarded::new(&before, BYTE_GUARD);
+    let answer = table::write(lent.lent(), text_bytes.lent());
+    lent.returned();
+    let after = text_bytes.returned();
+    match (answer, write_into(sheet, length)) {
+        (Written::Bytes(bytes), Ok(text)) => {
+            assert_eq!(bytes, text.len(), "{sheet:?}");
+            assert_eq!(after[..bytes], text, "{sheet:?}");
+            assert_eq!(after[bytes..], before[bytes..], "a byte after the text: {sheet:?}");
+            Ok(text)
+        }
+        (Written::Refused(refusal), Err(plain)) => {
+            assert!(is_refusal(refusal, plain), "{refusal:?}, not {plain:?}: {sheet:?}");
+            assert_eq!(after, before, "a refusal wrote: {sheet:?}");
+            Err(refusal)
+        }
+        (answer, plain) => panic!("{answer:?}, not {plain:?}: {sheet:?}"),
+    }
+}
+
+/// Writing a sheet's text into a buffer that is long enough for every text.
+pub fn write(sheet: &Sheet) -> Result<Vec<u8>, Refusal> {
+    write_with(sheet, text::TEXT_LIMIT)
+}

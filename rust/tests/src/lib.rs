@@ -1,0 +1,9 @@
+//! The proved library, held against what document 01 says, on inputs that nobody drew.
+//!
+//! Each function of [`agrees`] makes one call of the library on guarded buffers and compares all of
+//! it with the plain decoder: the answer, what every lent buffer then holds, and the guards.
+//! [`library`] makes the calls that are held against something else than the plain decoder.
+
+pub mod agrees;
+pub mod guarded;
+pub mod library;
