@@ -24,7 +24,8 @@
  *   7, vertex syndrome byte above 1
  *   8, edge   loss byte above 1
  *   9, edge   handed-in byte above 1
- *  10, vertex no correction: this vertex is in an odd part
+ *  10, vertex no correction: the smallest vertex of all odd parts; surface_decode and surface_verdict
+ *            alone give it, where nothing else is refused
  *  11, side   torus side outside 2 to 32
  *  12         text to be read or written above 65,536 bytes
  *  13, line   first malformed line, from 1

@@ -2,7 +2,6 @@
 -- Assumes nothing.
 use Prim.Native.Nat.{ℕ, _*_}
 use mathlib.Core.Path.{_≡_, refl, sym, ap, _∙_, subst, subst₂}
-use mathlib.Core.Bool.{false, cond, false≢true}
 use mathlib.Core.List.{List}
 use mathlib.Core.Option.{Option, none, some}
 use native.Mathlib.Omega.{arith}
@@ -15,9 +14,9 @@ use Rattle.model.specs.Board.{Board, Sheet, edges, boardOf, sheetOf}
 use Rattle.model.specs.Winding.{size}
 use Rattle.model.specs.Growth.{start, full, clusters, odd, growFrom, grown}
 use Rattle.model.specs.Correction.{correction}
-use Rattle.model.specs.Decoding.{noCorrection, growths, supports, corrected}
-use Rattle.model.specs.Refusals.{decodeRefusal}
-use Rattle.model.specs.Outcomes.{noneAt, answer, decodeAnswer, Decodes}
+use Rattle.model.specs.Decoding.{smallestOdd, growths, supports, corrected}
+use Rattle.model.specs.Refusals.{noneAt, decodeRefusal}
+use Rattle.model.specs.Outcomes.{answer, keyOrNone, decodeAnswer, Decodes}
 use Rattle.model.specs.Demand3.{Demand3}
 use Rattle.board.specs.declared.outcome.Found.{Found}
 use Rattle.board.specs.declared.outcome.Found.the-variants.{At, Nothing}
@@ -25,23 +24,17 @@ use Rattle.board.specs.Outcome.{foundOf}
 use Rattle.board.proofs.Calls.{ForDecoding, decode-passes}
 use Rattle.theory.proofs.Syndromes.{valid-in-range}
 use Rattle.theory.proofs.Supports.{start-supports, reached-supports}
-use Rattle.theory.proofs.Decodings.{key-reached, key-even}
-use Rattle.theory.proofs.Demand3.{keyOrNone, decodes-demand3}
+use Rattle.theory.proofs.Decodings.{passed-answer, none-answer, key-answer, key-reached, key-even}
+use Rattle.theory.proofs.Demand3.{decodes-demand3}
 use Rattle.parts.specs.Lent.{Lent}
 use Rattle.parts.specs.Answer.{FirstOdd}
-use Rattle.parts.proofs.Answers.{sheet-lent, nothing-found, vertex-found}
+use Rattle.parts.proofs.ValidSheets.{sheet-lent}
 use Rattle.peeling.specs.Peeling.{Peelable, NoOddCluster, Peels}
 use Rattle.decoder.specs.declared.book.Book.{Book}
 use Rattle.decoder.specs.Lent.{unmarked, Ends}
 use Rattle.decoder.specs.Gains.{Supports}
 use Rattle.decoder.specs.Runs.{Startable, Starts, Runnable, runOf, Runs}
-use Rattle.decoder.proofs.MarksAside.{grown-aside, none-aside}
-
-some-none : {A : Type 0} {B : Type 0} {a : A} → some a ≡ none → B
-some-none p = let z : _≡_ {A = ℕ} 0 1 = cc in absurd (zero-one z)
-  where
-    zero-one : _≡_ {A = ℕ} 0 1 → ⊥
-    zero-one z = omega arith
+use Rattle.decoder.proofs.MarksAside.{grown-aside, smallest-aside}
 
 module _ (n : ℕ) (ends marks syndrome loss support written : List ℕ) where
   abbrev board : Board
@@ -68,9 +61,7 @@ module _ (n : ℕ) (ends marks syndrome loss support written : List ℕ) where
   refuses x p =
       promised
       (record {
-        shown = 0;
-        result = ap (λ t. answer t Refused (keyOrNone sheet 0)) p;
-        shown-odd = λ q r. some-none (p ∙ q);
+        result = ap (λ t. answer t Refused (keyOrNone sheet)) p;
         support-bytes = refl;
         correction-bytes = refl;
       })
@@ -90,29 +81,27 @@ module _ (n : ℕ) (ends marks syndrome loss support written : List ℕ) where
     unmarked-long : (m : ℕ) → m ≡ length marks → length marks ≡ length {A = ℕ} (replicate m 0)
     unmarked-long m p = sym p ∙ sym (length-replicate m 0)
 
+    decodes-as : decodeAnswer sheet support written ≡ keyOrNone sheet
+    decodes-as = passed-answer sheet support written (sym passed)
+
     -- Number 10
 
     pub parts-lent : Lent n ends syndrome
     parts-lent = sheet-lent (valid .sheet)
 
     pub shows-odd : {x : Found} (v : ℕ) → x ≡ At v → FirstOdd n ends syndrome x → Promised (Refused (noneAt v)) support written
-    unfolding decodeAnswer
     shows-odd v is f =
-        let o = vertex-found board (ones syndrome) v (ap foundOf (sym is) ∙ f .found marks (lent .two)) in
+        let smallest : some v ≡ smallestOdd board (ones syndrome) = ap foundOf (sym is) ∙ f .found marks (lent .two) in
         promised
         (record {
-          shown = v;
-          result =
-              ap (λ t. cond t (Refused (noneAt v)) (Key (growths sheet) (size board (corrected sheet)))) (sym (o .no-correction))
-              ∙ ap (λ t. answer t Refused (keyOrNone sheet v)) passed;
-          shown-odd = λ q r. o .in-odd-part;
+          result = sym (decodes-as ∙ none-answer sheet v (sym smallest));
           support-bytes = refl;
           correction-bytes = refl;
         })
 
     module _ {x : Found} (nothing : x ≡ Nothing) (even : FirstOdd n ends syndrome x) where
-      some-set : noCorrection board (ones syndrome) ≡ false
-      some-set = nothing-found board (ones syndrome) (ap foundOf (sym nothing) ∙ even .found marks (lent .two))
+      none-odd : smallestOdd board (ones syndrome) ≡ none
+      none-odd = sym (ap foundOf (sym nothing) ∙ even .found marks (lent .two))
 
       -- Growth
 
@@ -138,7 +127,7 @@ module _ (n : ℕ) (ends marks syndrome loss support written : List ℕ) where
               };
               lost = ones loss;
               begins = begun .supports;
-              some-set = sym (none-aside n ends marks _ (unmarked-long (length loss) loss-long) (ones syndrome)) ∙ some-set;
+              none-odd = sym (smallest-aside n ends marks _ (unmarked-long (length loss) loss-long) (ones syndrome)) ∙ none-odd;
             }
 
         pub runnable : Runnable (b .vertices) (length s) b ends syndrome s
@@ -183,10 +172,10 @@ module _ (n : ℕ) (ends marks syndrome loss support written : List ℕ) where
                 correction-bytes = valid .correction-long ∙ sym grown-long;
               }
 
-          none-odd : NoOddCluster board s′ syndrome
-          none-odd =
+          even-clusters : NoOddCluster board s′ syndrome
+          even-clusters =
               record {
-                even = λ a h. ap (λ x. odd board (clusters board x) (ones syndrome) a) supports-are ∙ key-even sheet (valid-in-range (valid .sheet .board)) some-set .even a h;
+                even = λ a h. ap (λ x. odd board (clusters board x) (ones syndrome) a) supports-are ∙ key-even sheet (valid-in-range (valid .sheet .board)) none-odd .even a h;
               }
 
           correction-is : correction board (full s′) (ones syndrome) ≡ corrected sheet
@@ -194,18 +183,14 @@ module _ (n : ℕ) (ends marks syndrome loss support written : List ℕ) where
           correction-is = ap (λ x. correction board (full x) (ones syndrome)) supports-are
 
           pub keyed : (e : ℕ) (k : List ℕ) → Peels n ends s′ syndrome e k → Promised (Key g e) s′ k
-          unfolding decodeAnswer
           keyed e k peels =
-              let w = peels .corrected marks (sym grown-long) none-odd in
+              let w = peels .corrected marks (sym grown-long) even-clusters in
               promised
               (record {
-                shown = 0;
                 result =
                     ap (λ x. Key x e) growths-are
                     ∙ ap (Key (growths sheet)) (w .count ∙ ap (size board) correction-is)
-                    ∙ ap (λ t. cond t (Refused (noneAt 0)) (Key (growths sheet) (size board (corrected sheet)))) (sym some-set)
-                    ∙ ap (λ t. answer t Refused (keyOrNone sheet 0)) passed;
-                shown-odd = λ q r. absurd (false≢true (sym some-set ∙ r));
+                    ∙ sym (decodes-as ∙ key-answer sheet none-odd);
                 support-bytes = supports-are;
                 correction-bytes = w .bytes-are ∙ ap (bytes (length marks)) correction-is;
               })

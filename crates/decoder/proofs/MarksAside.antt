@@ -10,8 +10,8 @@ use Rattle.model.specs.Sums.{Set}
 use Rattle.model.specs.Board.{Board}
 use Rattle.model.specs.Components.{labelsUpTo, labels, label}
 use Rattle.model.specs.Growth.{start, full, clusters, odd, exposed, boundary, better, choiceUpTo, choice, grow, chosen, growFrom, grown}
-use Rattle.model.specs.Decoding.{parts, inOddPart, noCorrection}
-use Rattle.model.proofs.SumLaws.{some-cong}
+use Rattle.model.specs.Decoding.{parts, inOddPart, smallestOdd}
+use Rattle.model.proofs.SumLaws.{first-cong}
 
 module _ (n : ℕ) (ends marks marks′ : List ℕ) (same : length marks ≡ length marks′) where
   abbrev B : Board
@@ -76,8 +76,8 @@ module _ (n : ℕ) (ends marks marks′ : List ℕ) (same : length marks ≡ len
   unfolding grown
   grown-aside S lost = rw (same, start-aside lost) (run-aside S (2 * length marks′) (start C lost) 0)
 
-  pub none-aside : (S : Set) → noCorrection B S ≡ noCorrection C S
-  unfolding noCorrection inOddPart parts
-  none-aside S =
-      some-cong n (inOddPart B S) (inOddPart C S)
+  pub smallest-aside : (S : Set) → smallestOdd B S ≡ smallestOdd C S
+  unfolding smallestOdd inOddPart parts
+  smallest-aside S =
+      first-cong n (inOddPart B S) (inOddPart C S)
       (λ v h. rw (labels-aside (λ e. true)) (odd-aside (labels C (λ e. true)) S (label (labels C (λ e. true)) v)))

@@ -11,7 +11,7 @@ use Rattle.model.specs.Sums.{Set, ones, values}
 use Rattle.model.specs.Board.{Board}
 use Rattle.model.specs.Components.{label, labels, within}
 use Rattle.model.specs.Growth.{start, full, clusters, odd, grow, growFrom}
-use Rattle.model.specs.Decoding.{noCorrection}
+use Rattle.model.specs.Decoding.{smallestOdd}
 use Rattle.model.proofs.Xor.{and-right}
 use Rattle.model.proofs.ListLaws.{length-values}
 use Rattle.theory.proofs.Parity.{odd-found}
@@ -89,7 +89,7 @@ module _ {b : Book} {ends syndrome s : List ℕ} (w : Steppable (b .vertices) (l
 -- whole run does
 pub record Running (n m : ℕ) (ends syndrome s₀ : List ℕ) (s : List ℕ) (b : Book) (g : ℕ) : Type 0 where
   pub steppable : Steppable n m b ends syndrome s
-  pub some-set : noCorrection (unmarked n m ends) (ones syndrome) ≡ false
+  pub none-odd : smallestOdd (unmarked n m ends) (ones syndrome) ≡ none
   pub lost : Set
   pub reached : Reached (unmarked n m ends) (ones syndrome) lost s g
   pub few : g ≤ 2 * m
@@ -99,7 +99,7 @@ pub run-begins : {n m : ℕ} {b : Book} {ends syndrome s : List ℕ} → Runnabl
 run-begins {n} {m} {b} {ends} {syndrome} {s} w =
     record {
       steppable = w .steppable;
-      some-set = w .some-set;
+      none-odd = w .none-odd;
       lost = w .lost;
       reached = subst (λ x. Reached (unmarked n m ends) (ones syndrome) (w .lost) x 0) (sym (w .begins)) begin;
       few = omega arith;
@@ -148,7 +148,7 @@ module _ {n m : ℕ} {ends syndrome s₀ s : List ℕ} {b : Book} {g : ℕ} (w :
     odd-at x = choice-odd board s (clusters board s) (ones syndrome) (x .at) (x .is)
 
     pub growths-left : r .grew ≡ true → g < 2 * m
-    growths-left p = omega (arith, growth-left board (lent-range (w .steppable .lent)) (ones syndrome) (w .lost) (w .some-set) (w .reached) (odd-at (grew-at p)), length-replicate {A = ℕ} m 0)
+    growths-left p = omega (arith, growth-left board (lent-range (w .steppable .lent)) (ones syndrome) (w .lost) (w .none-odd) (w .reached) (odd-at (grew-at p)), length-replicate {A = ℕ} m 0)
 
     pub run-more : r .grew ≡ true → Running n m ends syndrome s₀ s′ (r .book) (suc g)
     run-more p =
@@ -160,7 +160,7 @@ module _ {n m : ℕ} {ends syndrome s₀ s : List ℕ} {b : Book} {g : ℕ} (w :
             supports = record { small = λ e h. after-supports .bounded e (omega (arith, after-supports .long)) };
             book = here .book;
           };
-          some-set = w .some-set;
+          none-odd = w .none-odd;
           lost = w .lost;
           reached = reaches;
           few = growths-left p;

@@ -8,7 +8,7 @@ use mathlib.Core.Option.{Option, none, some}
 use lib.ListN.{length}
 use Rattle.model.specs.Sums.{Set, ones}
 use Rattle.model.specs.Growth.{start, clusters, choice, grow, Grown, chosen, growFrom}
-use Rattle.model.specs.Decoding.{noCorrection}
+use Rattle.model.specs.Decoding.{smallestOdd}
 use Rattle.decoder.specs.declared.book.Book.{Book}
 use Rattle.decoder.specs.declared.growth.Stepped.{Stepped}
 use Rattle.decoder.specs.Lent.{unmarked, Ends}
@@ -51,7 +51,7 @@ pub record Runnable (n m : ℕ) (b : Book) (ends syndrome s : List ℕ) : Type 0
   pub steppable : Steppable n m b ends syndrome s
   pub lost : Set
   pub begins : s ≡ start (unmarked n m ends) lost
-  pub some-set : noCorrection (unmarked n m ends) (ones syndrome) ≡ false
+  pub none-odd : smallestOdd (unmarked n m ends) (ones syndrome) ≡ none
 
 -- the growth count and the supports of the whole run
 abbrev pub runOf : ℕ → ℕ → List ℕ → List ℕ → List ℕ → Grown

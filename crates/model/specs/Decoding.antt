@@ -1,9 +1,10 @@
--- Document 01, "Peeling": what decoding returns and writes, and when there is no correction.
+-- Document 01, "Peeling", and document 02, K2: what decoding returns and writes, and when there is no correction.
 -- Assumes nothing.
 use Prim.Native.Nat.{ℕ}
 use mathlib.Core.Bool.{Bool, true}
 use mathlib.Core.List.{List}
-use Rattle.model.specs.Sums.{Set, someUpTo, ones}
+use mathlib.Core.Option.{Option}
+use Rattle.model.specs.Sums.{Set, firstUpTo, ones}
 use Rattle.model.specs.Board.{Board, Sheet}
 use Rattle.model.specs.Components.{labels, label}
 use Rattle.model.specs.Growth.{odd, full, grown}
@@ -17,11 +18,11 @@ parts B = labels B (λ e. true)
 unfoldable pub inOddPart : Board → Set → ℕ → Bool
 inOddPart B S v = odd B (parts B) S (label (parts B) v)
 
--- If some connected part of the whole board holds an odd number of syndrome vertices, there is no correction.
-unfoldable pub noCorrection : Board → Set → Bool
-noCorrection B S = someUpTo (B .vertices) (inOddPart B S)
+-- The smallest vertex of all odd parts. Where there is one, there is no correction, and this vertex is shown.
+unfoldable pub smallestOdd : Board → Set → Option ℕ
+smallestOdd B S = firstUpTo (B .vertices) (inOddPart B S)
 
--- Otherwise the key: the growth count, a support byte for each edge, and the correction.
+-- Where no part is odd, the key: the growth count, a support byte for each edge, and the correction.
 unfoldable pub growths : Sheet → ℕ
 growths X = grown (X .board) (ones (X .syndrome)) (ones (X .loss)) .growths
 

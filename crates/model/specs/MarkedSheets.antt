@@ -1,4 +1,5 @@
--- Document 01, "Marked sheets": m1 to m9 as theorems about the definitions, gathered as one list, each proved by computation.
+-- Document 01, "Marked sheets": m1 to m9 as theorems about the definitions, and document 02, K2: the vertices that number 10 shows.
+-- Gathered as one list, each proved by computation.
 -- Assumes nothing.
 use Prim.Native.Nat.{ℕ, _+_, _*_}
 use mathlib.Core.Path.{_≡_, refl}
@@ -16,12 +17,12 @@ use Rattle.model.specs.Components.{labelsUpTo, labels}
 use Rattle.model.specs.Growth.{start, full, clusters, odd, exposed, boundary, choiceUpTo, choice, grow, growFrom, grown}
 use Rattle.model.specs.Forest.{takenUpTo, forest}
 use Rattle.model.specs.Correction.{oddSide, correction}
-use Rattle.model.specs.Decoding.{parts, inOddPart, noCorrection, growths, supports, corrected}
+use Rattle.model.specs.Decoding.{parts, inOddPart, smallestOdd, growths, supports, corrected}
 use Rattle.model.specs.Demand3.{lostEdges, keptEdges}
 use Rattle.model.specs.Distance.{fewestFrom, fewest}
 use Rattle.model.specs.Torus.{torusEnds, torusMarks, torus}
-use Rattle.model.specs.Refusals.{decodeRefusal}
-use Rattle.model.specs.Outcomes.{decodeAnswer, noneAt}
+use Rattle.model.specs.Refusals.{noneAt, decodeRefusal}
+use Rattle.model.specs.Outcomes.{keyOrNone, decodeAnswer}
 
 -- the set of the numbers on a list
 unfoldable pub setOf : List ℕ → Set
@@ -53,18 +54,22 @@ pair = record { vertices = 2; ends = 0 ∷ 1 ∷ 0 ∷ 1 ∷ []; marks = 0 ∷ 1
 abbrev pub point : Board
 point = record { vertices = 1; ends = []; marks = [] }
 
+-- K2: vertex 0 alone, and the edges 2-1 and 4-3, marks 0.
+abbrev pub twoEdges : Board
+twoEdges = record { vertices = 5; ends = 2 ∷ 1 ∷ 4 ∷ 3 ∷ []; marks = 0 ∷ 0 ∷ [] }
+
 -- the table answers with this many growths and this correction
 pub record Keyed (X : Sheet) (steps : ℕ) (edges : List ℕ) : Type 0 where
-  pub answers : decodeAnswer X (blank X) (blank X) 0 ≡ Key steps (length edges)
+  pub answers : decodeAnswer X (blank X) (blank X) ≡ Key steps (length edges)
   pub corrects : members (length (X .board .marks)) (corrected X) ≡ edges
 
 -- these edges end full
 abbrev pub EndFull : Sheet → List ℕ → Type 0
 EndFull X e = members (edges (X .board)) (full (supports X)) ≡ e
 
--- the table answers 10
-abbrev pub NoKey : Sheet → Type 0
-NoKey X = (v : ℕ) → decodeAnswer X (blank X) (blank X) v ≡ Refused (noneAt v)
+-- the table answers 10 and shows the vertex v
+abbrev pub NoKey : Sheet → ℕ → Type 0
+NoKey X v = decodeAnswer X (blank X) (blank X) ≡ Refused (noneAt v)
 
 -- E has the syndrome put
 abbrev pub Fits : Sheet → List ℕ → Type 0
@@ -90,7 +95,7 @@ m3 = sheet ring (0 ∷ 3 ∷ []) (0 ∷ 1 ∷ 2 ∷ 3 ∷ [])
 abbrev pub m4 : Sheet
 m4 = sheet path (0 ∷ 3 ∷ []) []
 
--- m5 P, {0,1,2}: 10
+-- m5 P, {0,1,2}: 10, vertex 0
 abbrev pub m5 : Sheet
 m5 = sheet path (0 ∷ 1 ∷ 2 ∷ []) []
 
@@ -106,12 +111,17 @@ m7 = sheet (torus 3) (0 ∷ 4 ∷ []) []
 abbrev pub m8 : Sheet
 m8 = sheet pair (0 ∷ 1 ∷ []) []
 
--- m9 one vertex, no edge: {} gives 0 growths, {0} gives 10; distance none
+-- m9 one vertex, no edge: {} gives 0 growths, {0} gives 10, vertex 0; distance none
 abbrev pub m9 : Sheet
 m9 = sheet point [] []
 
 abbrev pub m9-lit : Sheet
 m9-lit = sheet point (0 ∷ []) []
+
+-- K2, {2,4}: both edges are odd parts, and 10 shows vertex 1: not vertex 0, whose part is even, not 2, which is lit and the largest of its
+-- part, and not 3, the smallest of the other odd part
+abbrev pub twoOdd : Sheet
+twoOdd = sheet twoEdges (2 ∷ 4 ∷ []) []
 
 pub record MarkedSheets : Type 0 where
   pub m1-key : Keyed m1 2 (3 ∷ [])
@@ -124,7 +134,7 @@ pub record MarkedSheets : Type 0 where
   pub m3-weight : weight m3 (3 ∷ []) ≡ 4
   pub m3-winds : winds ring (together (setOf (3 ∷ [])) (corrected m3)) ≡ true
   pub m4-key : Keyed m4 6 (0 ∷ 1 ∷ 2 ∷ [])
-  pub m5-none : NoKey m5
+  pub m5-none : NoKey m5 0
   pub m6-key : Keyed m6 2 (0 ∷ [])
   pub m6-full : EndFull m6 (0 ∷ 1 ∷ 4 ∷ 13 ∷ [])
   pub m7-key : Keyed m7 4 (0 ∷ 3 ∷ [])
@@ -132,11 +142,12 @@ pub record MarkedSheets : Type 0 where
   pub m8-key : Keyed m8 2 (0 ∷ [])
   pub m8-distance : fewest pair ≡ some 2
   pub m9-key : Keyed m9 0 []
-  pub m9-none : NoKey m9-lit
+  pub m9-none : NoKey m9-lit 0
   pub m9-distance : fewest point ≡ none
+  pub two-odd-none : NoKey twoOdd 1
 
 pub marked-sheets : MarkedSheets
-unfolding members setOf sheet oddUpTo countUpTo someUpTo firstUpTo values syndrome closed crossings winds labelsUpTo labels start clusters odd exposed boundary choiceUpTo choice grow growFrom grown takenUpTo forest oddSide correction parts inOddPart noCorrection growths supports corrected fewestFrom fewest torusEnds torusMarks torus decodeRefusal decodeAnswer
+unfolding members setOf sheet oddUpTo countUpTo someUpTo firstUpTo values syndrome closed crossings winds labelsUpTo labels start clusters odd exposed boundary choiceUpTo choice grow growFrom grown takenUpTo forest oddSide correction parts inOddPart smallestOdd growths supports corrected fewestFrom fewest torusEnds torusMarks torus decodeRefusal keyOrNone decodeAnswer
 marked-sheets =
     record {
       m1-key = record { answers = refl; corrects = refl };
@@ -149,7 +160,7 @@ marked-sheets =
       m3-weight = refl;
       m3-winds = refl;
       m4-key = record { answers = refl; corrects = refl };
-      m5-none = λ v. refl;
+      m5-none = refl;
       m6-key = record { answers = refl; corrects = refl };
       m6-full = refl;
       m7-key = record { answers = refl; corrects = refl };
@@ -157,6 +168,7 @@ marked-sheets =
       m8-key = record { answers = refl; corrects = refl };
       m8-distance = refl;
       m9-key = record { answers = refl; corrects = refl };
-      m9-none = λ v. refl;
+      m9-none = refl;
       m9-distance = refl;
+      two-odd-none = refl;
     }

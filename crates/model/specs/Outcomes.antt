@@ -2,12 +2,11 @@
 -- Assumes nothing.
 use Prim.Native.Nat.{ℕ, _*_}
 use mathlib.Core.Path.{_≡_}
-use mathlib.Core.Bool.{true, cond}
+use mathlib.Core.Bool.{true}
 use mathlib.Core.List.{List}
 use mathlib.Core.Option.{Option, none, some}
 use lib.ListN.{replicate}
 use Rattle.model.specs.declared.refusal.Refusal.{Refusal}
-use Rattle.model.specs.declared.refusal.Refusal.the-variants.{NoCorrection}
 use Rattle.model.specs.declared.answers.Decoded.{Decoded}
 use Rattle.model.specs.declared.answers.Decoded.the-variants as decoded
 use Rattle.model.specs.declared.answers.Verdict.{Verdict}
@@ -19,60 +18,47 @@ use Rattle.model.specs.declared.answers.Built.the-variants as built
 use Rattle.model.specs.Sums.{Set, ones, bytes}
 use Rattle.model.specs.Board.{Board, Sheet, edges}
 use Rattle.model.specs.Winding.{winds, size}
-use Rattle.model.specs.Decoding.{inOddPart, noCorrection, growths, supports, corrected}
+use Rattle.model.specs.Decoding.{growths, supports, corrected}
 use Rattle.model.specs.Verdict.{judged}
 use Rattle.model.specs.Distance.{fewest}
 use Rattle.model.specs.Torus.{torusEnds, torusMarks}
-use Rattle.model.specs.Refusals.{Test, decodeRefusal, verdictRefusal, distanceRefusal, torusRefusal}
+use Rattle.model.specs.Refusals.{Test, oddPartTest, decodeRefusal, verdictRefusal, distanceRefusal, torusRefusal}
 
 -- a call's answer: the refusal of the first test that fails, or else what follows
 abbrev pub answer : {A : Type 0} → Test → (Refusal → A) → A → A
 answer none refused else = else
 answer (some n) refused else = refused n
 
--- number 10 with the vertex shown
-abbrev pub noneAt : ℕ → Refusal
-noneAt v = NoCorrection (record { 0 = v })
+-- Decoding's answer once its tests are passed: number 10 with the smallest vertex of all odd parts, or the key.
+unfoldable pub keyOrNone : Sheet → Decoded
+keyOrNone X = answer (oddPartTest X) decoded.Refused (decoded.Key (growths X) (size (X .board) (corrected X)))
 
--- Decoding's answer, with the vertex that number 10 shows.
-unfoldable pub decodeAnswer : Sheet → List ℕ → List ℕ → ℕ → Decoded
-decodeAnswer X support correction shown =
-    answer (decodeRefusal X support correction) decoded.Refused
-    (cond (noCorrection (X .board) (ones (X .syndrome)))
-    (decoded.Refused (noneAt shown))
-    (decoded.Key (growths X) (size (X .board) (corrected X))))
+unfoldable pub decodeAnswer : Sheet → List ℕ → List ℕ → Decoded
+decodeAnswer X support correction = answer (decodeRefusal X support correction) decoded.Refused (keyOrNone X)
 
 -- A refusal writes nothing.
 abbrev pub keyOr : {A : Type 0} → Decoded → A → A → A
 keyOr (decoded.Key g k) new old = new
 keyOr (decoded.Refused n) new old = old
 
--- What decoding returns and leaves in its two buffers. Free is only the vertex of 10: a vertex of an odd part.
+-- What decoding returns and leaves in its two buffers. Nothing of it is free.
 pub record Decodes (X : Sheet) (support correction : List ℕ) (r : Decoded) (support′ correction′ : List ℕ) : Type 0 where
-  pub shown : ℕ
-  pub result : r ≡ decodeAnswer X support correction shown
-  pub shown-odd :
-      decodeRefusal X support correction ≡ none →
-      noCorrection (X .board) (ones (X .syndrome)) ≡ true →
-      inOddPart (X .board) (ones (X .syndrome)) shown ≡ true
+  pub result : r ≡ decodeAnswer X support correction
   pub support-bytes : support′ ≡ keyOr r (supports X) support
   pub correction-bytes : correction′ ≡ keyOr r (bytes (edges (X .board)) (corrected X)) correction
 
--- The verdict's answer: a refusal comes before the others.
-unfoldable pub verdictAnswer : Sheet → List ℕ → ℕ → Verdict
-verdictAnswer X handed shown =
-    answer (verdictRefusal X handed) verdict.Refused
-    (cond (noCorrection (X .board) (ones (X .syndrome)))
-    (verdict.Refused (noneAt shown))
-    (judged (X .board) (ones (X .syndrome)) (corrected X) (ones handed)))
+-- The verdict's answer once its tests are passed: number 10 as decoding gives it, or the comparison with the correction.
+unfoldable pub judgedOrNone : Sheet → List ℕ → Verdict
+judgedOrNone X handed =
+    answer (oddPartTest X) verdict.Refused (judged (X .board) (ones (X .syndrome)) (corrected X) (ones handed))
 
+-- A refusal comes before the others.
+unfoldable pub verdictAnswer : Sheet → List ℕ → Verdict
+verdictAnswer X handed = answer (verdictRefusal X handed) verdict.Refused (judgedOrNone X handed)
+
+-- What the verdict returns; it fills no buffer.
 pub record Judges (X : Sheet) (handed : List ℕ) (r : Verdict) : Type 0 where
-  pub shown : ℕ
-  pub result : r ≡ verdictAnswer X handed shown
-  pub shown-odd :
-      verdictRefusal X handed ≡ none →
-      noCorrection (X .board) (ones (X .syndrome)) ≡ true →
-      inOddPart (X .board) (ones (X .syndrome)) shown ≡ true
+  pub result : r ≡ verdictAnswer X handed
 
 -- The distance, or none.
 abbrev pub distanceOf : Option ℕ → Distance

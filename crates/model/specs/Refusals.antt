@@ -8,8 +8,9 @@ use lib.ListN.{length, getD}
 use lib.Dec.{eqb, leb, ltb}
 use Rattle.model.specs.declared.refusal.Refusal.{Refusal}
 use Rattle.model.specs.declared.refusal.Refusal.the-variants.{VertexCount, EndCount, BufferLength, EndRange, EqualEnds, MarkRange, SyndromeByte, LossByte, HandedByte, NoCorrection, TorusSide, TextLength, MalformedLine, TextBuffer}
-use Rattle.model.specs.Sums.{Set, firstUpTo}
+use Rattle.model.specs.Sums.{Set, ones, firstUpTo}
 use Rattle.model.specs.Board.{Board, Sheet, edges, firstEnd, secondEnd, mark, vertexLimit, edgeLimit}
+use Rattle.model.specs.Decoding.{smallestOdd}
 
 -- the number of each refusal
 abbrev pub numberOf : Refusal → ℕ
@@ -109,6 +110,13 @@ lossTest l = firstPlace (length l) (aboveOne l) (λ e. LossByte (record { 0 = e 
 abbrev pub handedTest : List ℕ → Test
 handedTest l = firstPlace (length l) (aboveOne l) (λ e. HandedByte (record { 0 = e }))
 
+-- 10: some part of the whole board is odd; the place is the smallest vertex of all odd parts
+abbrev pub noneAt : ℕ → Refusal
+noneAt v = NoCorrection (record { 0 = v })
+
+abbrev pub oddPartTest : Sheet → Test
+oddPartTest X = refusedAt (smallestOdd (X .board) (ones (X .syndrome))) noneAt
+
 -- 11: torus side outside 2 to 32
 abbrev pub sideTest : ℕ → Test
 sideTest L = unless (leb 2 L && leb L 32) (TorusSide L)
@@ -117,7 +125,8 @@ sideTest L = unless (leb 2 L && leb L 32) (TorusSide L)
 abbrev pub edgesOf : List ℕ → ℕ
 edgesOf ends = length ends / 2
 
--- Each call tests what it is lent. Decoding is lent a sheet and two buffers to fill.
+-- Each call tests what it is lent. Decoding and the verdict test for number 10 as well, once all tests of their lists are passed: it asks
+-- for the parts of a board that keeps the rules. Decoding is lent a sheet and two buffers to fill.
 unfoldable pub decodeRefusal : Sheet → List ℕ → List ℕ → Test
 decodeRefusal X support correction =
     let B = X .board in

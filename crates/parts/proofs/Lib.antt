@@ -2,4 +2,4 @@ pub mod Rooting
 pub mod Connecting
 pub mod Flipping
 pub mod Marking
-pub mod Answers
+pub mod ValidSheets

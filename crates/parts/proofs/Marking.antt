@@ -8,7 +8,7 @@ use lib.Dec.{eqb}
 use Rattle.model.specs.Sums.{ones, firstUpTo}
 use Rattle.model.specs.Components.{label, within}
 use Rattle.model.specs.Growth.{odd}
-use Rattle.model.specs.Decoding.{parts, inOddPart}
+use Rattle.model.specs.Decoding.{parts, inOddPart, smallestOdd}
 use Rattle.model.proofs.SumLaws.{odd-cong, first-cong}
 use Rattle.model.proofs.Bits.{eqb-bit}
 use Rattle.board.specs.declared.outcome.Found.{Found}
@@ -35,5 +35,6 @@ marked-odd {n} {ends} {syndrome} {parent} c w marks two v h =
 pub first-odd :
     {n : ℕ} {ends syndrome parent odd : List ℕ} {r : Found} → Connects n ends parent → Parities n parent syndrome odd
     → foundOf r ≡ firstUpTo n (marked parent odd) → FirstOdd n ends syndrome r
+unfolding smallestOdd
 first-odd {n} c w q =
     record { found = λ marks two. q ∙ first-cong n _ _ (marked-odd c w marks two) }

@@ -1,4 +1,4 @@
-// The connected parts of the whole board, and number 10: the first vertex of a part that holds an odd number of syndrome vertices.
+// The connected parts of the whole board, and the vertex of number 10: the smallest of all parts that hold an odd number of syndrome vertices.
 use board::outcome::Found;
 use model::limits::VERTICES;
 use model::numbers::Vertex;
@@ -53,24 +53,24 @@ fn parities(parent: &[u16; VERTICES], syndrome: &[u8]) -> [u8; VERTICES]
     odd
 }
 
-// The first vertex whose root has a 1.
+// The smallest vertex whose root has a 1. Roots are in no order, so the vertices are gone through and not the roots.
 fn first_marked(vertices: usize, parent: &[u16; VERTICES], odd: &[u8; VERTICES]) -> Found
     requires { ⌜ Marked vertices (now parent) (now odd) ⌝ }
     ensures { λ r. ⌜ foundOf r ≡ firstUpTo vertices (marked (now (parent .entry)) (now (odd .entry))) ⌝ }
 {
-    let mut v = 0;
-    while v < vertices {
-        let vertex = v as u16;
+    let mut next = 0;
+    while next < vertices {
+        let vertex = next as u16;
         let root = root_of(parent, Vertex(vertex));
         if odd[root.0 as usize] == 1 {
             return Found::At(vertex);
         }
-        v += 1;
+        next += 1;
     }
     Found::Nothing
 }
 
-// The first vertex that lies in an odd part of the whole board.
+// The smallest vertex of all odd parts of the whole board.
 pub fn first_odd(vertices: usize, ends: &[u16], syndrome: &[u8]) -> Found
     requires { ⌜ Lent vertices (now ends) (now syndrome) ⌝ }
     ensures { λ r. ⌜ FirstOdd vertices (now (ends .entry)) (now (syndrome .entry)) r ⌝ }

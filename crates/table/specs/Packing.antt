@@ -1,7 +1,6 @@
 -- An answer as one 64-bit number, for C: bits 0 to 7 are the refusal's number, or 0; where refused, bits 8 to 63 are the place; else
 -- bits 8 to 39 are a first and bits 40 to 63 a second value. Assumes nothing.
 use Prim.Native.Nat.{ℕ, _+_, _*_, _%_, _^_}
-use mathlib.Core.Path.{_≡_}
 use Rattle.model.specs.Refusals.{numberOf, placeOf}
 use Rattle.model.specs.declared.refusal.Refusal.{Refusal}
 use Rattle.model.specs.declared.answers.Decoded.{Decoded}
@@ -57,9 +56,3 @@ packedReading (reading.Refused n) = packedRefusal n
 abbrev pub packedWritten : Written → ℕ
 packedWritten (written.Bytes n) = packed n 0
 packedWritten (written.Refused n) = packedRefusal n
-
--- What an exported function returns: the packed form of an answer that meets the call's outcome.
-pub record Exports {A : Type 0} (outcome : A → Type 0) (pack : A → ℕ) (r : ℕ) : Type 0 where
-  pub answer : A
-  pub meets : outcome answer
-  pub number : r ≡ pack answer

@@ -8,14 +8,10 @@ use crate::packing::pack_reading;
 use crate::packing::pack_verdict;
 use crate::packing::pack_written;
 ghost use mathlib.Core.Path.{_≡_};
-ghost use mathlib.Core.Option.{none};
-ghost use Rattle.model.specs.Sums.{ones};
-ghost use Rattle.model.specs.Demand3.{Demand3};
-ghost use Rattle.model.specs.Refusals.{decodeRefusal};
-ghost use Rattle.model.specs.Outcomes.{Decodes, Judges, Measures, Builds};
-ghost use Rattle.model.specs.TextOutcomes.{Reads, Writes};
+ghost use Rattle.model.specs.Outcomes.{decodeAnswer, Decodes, verdictAnswer, distanceAnswer, Measures, torusAnswer, Builds};
+ghost use Rattle.model.specs.TextOutcomes.{counts, readOutcome, Reads, writeAnswer, Writes};
 ghost use Rattle.model.specs.Board.{boardOf, sheetOf};
-ghost use Rattle.table.specs.Packing.{Exports, packedDecoded, packedVerdict, packedDistance, packedBuilt, packedReading, packedWritten};
+ghost use Rattle.table.specs.Packing.{packedDecoded, packedVerdict, packedDistance, packedBuilt, packedReading, packedWritten};
 
 // The key of a sheet: growths and correction edges, with the support and correction bytes filled.
 #[no_mangle]
@@ -28,7 +24,8 @@ pub extern "C" fn surface_decode(
     support: &mut [u8],
     correction: &mut [u8],
 ) -> u64
-    ensures { λ r. ⌜ Exports (λ a. Decodes (sheetOf (boardOf vertices (now (ends .entry)) (now (marks .entry))) (now (syndrome .entry)) (now (loss .entry))) (now (support .entry)) (now (correction .entry)) a (now (support .exit)) (now (correction .exit))) packedDecoded r ⌝ }
+    ensures number { λ r. ⌜ r ≡ packedDecoded (decodeAnswer (sheetOf (boardOf vertices (now (ends .entry)) (now (marks .entry))) (now (syndrome .entry)) (now (loss .entry))) (now (support .entry)) (now (correction .entry))) ⌝ }
+    ensures buffers { λ r. ⌜ Decodes (sheetOf (boardOf vertices (now (ends .entry)) (now (marks .entry))) (now (syndrome .entry)) (now (loss .entry))) (now (support .entry)) (now (correction .entry)) (decodeAnswer (sheetOf (boardOf vertices (now (ends .entry)) (now (marks .entry))) (now (syndrome .entry)) (now (loss .entry))) (now (support .entry)) (now (correction .entry))) (now (support .exit)) (now (correction .exit)) ⌝ }
 {
     let decoded = decoder::decode(vertices, ends, marks, syndrome, loss, support, correction);
     pack_decoded(decoded)
@@ -44,7 +41,7 @@ pub extern "C" fn surface_verdict(
     loss: &[u8],
     handed: &[u8],
 ) -> u64
-    ensures { λ r. ⌜ Exports (λ a. Judges (sheetOf (boardOf vertices (now (ends .entry)) (now (marks .entry))) (now (syndrome .entry)) (now (loss .entry))) (now (handed .entry)) a) packedVerdict r ⌝ }
+    ensures number { λ r. ⌜ r ≡ packedVerdict (verdictAnswer (sheetOf (boardOf vertices (now (ends .entry)) (now (marks .entry))) (now (syndrome .entry)) (now (loss .entry))) (now (handed .entry))) ⌝ }
 {
     let judged = verdict::verdict(vertices, ends, marks, syndrome, loss, handed);
     pack_verdict(judged)
@@ -58,7 +55,8 @@ pub extern "C" fn surface_distance(
     marks: &[u8],
     shown: &mut [u8],
 ) -> u64
-    ensures { λ r. ⌜ Exports (λ a. Measures (boardOf vertices (now (ends .entry)) (now (marks .entry))) (now (shown .entry)) a (now (shown .exit))) packedDistance r ⌝ }
+    ensures number { λ r. ⌜ r ≡ packedDistance (distanceAnswer (boardOf vertices (now (ends .entry)) (now (marks .entry))) (now (shown .entry))) ⌝ }
+    ensures buffers { λ r. ⌜ Measures (boardOf vertices (now (ends .entry)) (now (marks .entry))) (now (shown .entry)) (distanceAnswer (boardOf vertices (now (ends .entry)) (now (marks .entry))) (now (shown .entry))) (now (shown .exit)) ⌝ }
 {
     let measured = distance::distance(vertices, ends, marks, shown);
     pack_distance(measured)
@@ -67,7 +65,8 @@ pub extern "C" fn surface_distance(
 // The torus of a side, with its ends and marks filled.
 #[no_mangle]
 pub extern "C" fn surface_torus(side: u32, ends: &mut [u16], marks: &mut [u8]) -> u64
-    ensures { λ r. ⌜ Exports (λ a. Builds side (now (ends .entry)) (now (marks .entry)) a (now (ends .exit)) (now (marks .exit))) packedBuilt r ⌝ }
+    ensures number { λ r. ⌜ r ≡ packedBuilt (torusAnswer side (now (ends .entry)) (now (marks .entry))) ⌝ }
+    ensures buffers { λ r. ⌜ Builds side (now (ends .entry)) (now (marks .entry)) (torusAnswer side (now (ends .entry)) (now (marks .entry))) (now (ends .exit)) (now (marks .exit)) ⌝ }
 {
     let built = torus::torus(side as usize, ends, marks);
     pack_built(built)
@@ -82,7 +81,8 @@ pub extern "C" fn surface_read(
     syndrome: &mut [u8],
     loss: &mut [u8],
 ) -> u64
-    ensures { λ r. ⌜ Exports (λ a. Reads (now (text .entry)) (now (ends .entry)) (now (marks .entry)) (now (syndrome .entry)) (now (loss .entry)) a (now (ends .exit)) (now (marks .exit)) (now (syndrome .exit)) (now (loss .exit))) packedReading r ⌝ }
+    ensures number { λ r. ⌜ r ≡ packedReading (counts (readOutcome (now (text .entry)) (now (ends .entry)) (now (marks .entry)) (now (syndrome .entry)) (now (loss .entry)))) ⌝ }
+    ensures buffers { λ r. ⌜ Reads (now (text .entry)) (now (ends .entry)) (now (marks .entry)) (now (syndrome .entry)) (now (loss .entry)) (counts (readOutcome (now (text .entry)) (now (ends .entry)) (now (marks .entry)) (now (syndrome .entry)) (now (loss .entry)))) (now (ends .exit)) (now (marks .exit)) (now (syndrome .exit)) (now (loss .exit)) ⌝ }
 {
     let reading = text::reading::read(text, ends, marks, syndrome, loss);
     pack_reading(reading)
@@ -98,7 +98,8 @@ pub extern "C" fn surface_write(
     loss: &[u8],
     text: &mut [u8],
 ) -> u64
-    ensures { λ r. ⌜ Exports (λ a. Writes (sheetOf (boardOf vertices (now (ends .entry)) (now (marks .entry))) (now (syndrome .entry)) (now (loss .entry))) (now (text .entry)) a (now (text .exit))) packedWritten r ⌝ }
+    ensures number { λ r. ⌜ r ≡ packedWritten (writeAnswer (sheetOf (boardOf vertices (now (ends .entry)) (now (marks .entry))) (now (syndrome .entry)) (now (loss .entry))) (now (text .entry))) ⌝ }
+    ensures buffers { λ r. ⌜ Writes (sheetOf (boardOf vertices (now (ends .entry)) (now (marks .entry))) (now (syndrome .entry)) (now (loss .entry))) (now (text .entry)) (writeAnswer (sheetOf (boardOf vertices (now (ends .entry)) (now (marks .entry))) (now (syndrome .entry)) (now (loss .entry))) (now (text .entry))) (now (text .exit)) ⌝ }
 {
     let written = text::writing::write(vertices, ends, marks, syndrome, loss, text);
     pack_written(written)

@@ -3,9 +3,8 @@
 -- Assumes nothing.
 use Prim.Native.Nat.{ℕ, _<_}
 use mathlib.Core.Path.{_≡_, refl, sym, ap, _∙_}
-use mathlib.Core.Bool.{Bool, true, false, cond}
 use mathlib.Core.List.{List}
-use mathlib.Core.Option.{none}
+use mathlib.Core.Option.{Option, none, some}
 use Rattle.model.specs.declared.refusal.Refusal.{Refusal}
 use Rattle.model.specs.declared.refusal.Refusal.the-variants.{NoCorrection}
 use Rattle.model.specs.declared.answers.Decoded.{Decoded}
@@ -15,19 +14,19 @@ use Rattle.model.specs.Board.{Board, Sheet, ValidSheet, edges}
 use Rattle.model.specs.Syndrome.{HasSyndrome}
 use Rattle.model.specs.Winding.{size}
 use Rattle.model.specs.Growth.{full}
-use Rattle.model.specs.Decoding.{noCorrection, growths, supports, corrected}
-use Rattle.model.specs.Refusals.{decodeRefusal}
-use Rattle.model.specs.Outcomes.{noneAt, answer, decodeAnswer, keyOr, Decodes}
+use Rattle.model.specs.Decoding.{smallestOdd, growths, supports, corrected}
+use Rattle.model.specs.Refusals.{noneAt, decodeRefusal}
+use Rattle.model.specs.Outcomes.{keyOrNone, keyOr, Decodes}
 use Rattle.model.specs.Demand3.{Bounded, Unmet, Demand3}
 use Rattle.model.proofs.Contradiction.{zero-one}
 use Rattle.model.proofs.ListLaws.{ones-bytes}
 use Rattle.theory.proofs.GrowthRun.{Reached}
 use Rattle.theory.proofs.Syndromes.{InRange, valid-in-range, has-syndrome-cong}
 use Rattle.theory.proofs.Forests.{Within}
-use Rattle.theory.proofs.NoCorrection.{no-correction-exactly}
+use Rattle.theory.proofs.NoCorrection.{no-correction-unmet}
 use Rattle.theory.proofs.GrowthBound.{growth-bound}
 use Rattle.theory.proofs.NotWinding.{not-winding}
-use Rattle.theory.proofs.Decodings.{key-reached, corrected-full, corrected-has-syndrome}
+use Rattle.theory.proofs.Decodings.{passed-answer, none-answer, key-answer, key-reached, corrected-full, corrected-has-syndrome}
 
 -- the bounds, for any correction in the full edges that growths of odd clusters reached
 pub reached-bounded : (B : Board) → InRange B → (S lost C : Set) {s : List ℕ} {g : ℕ} → Reached B S lost s g → Within B C (full s)
@@ -59,29 +58,24 @@ key-demand B S lost r C g k key has each =
       bounded = λ h j q E hasE. let same : g ≡ h = cc in rw (sym same) (each E hasE);
     }
 
--- decoding's answer once its tests are passed, with the vertex that number 10 shows
-abbrev pub keyOrNone : Sheet → ℕ → Decoded
-keyOrNone X shown =
-    cond (noCorrection (X .board) (ones (X .syndrome))) (Refused (noneAt shown)) (Key (growths X) (size (X .board) (corrected X)))
-
 -- C is the correction on the board's edges, where there is one
 pub record IsCorrection (X : Sheet) (C : Set) : Type 0 where
-  pub at : noCorrection (X .board) (ones (X .syndrome)) ≡ false → (e : ℕ) → e < edges (X .board) → C e ≡ corrected X e
+  pub at : smallestOdd (X .board) (ones (X .syndrome)) ≡ none → (e : ℕ) → e < edges (X .board) → C e ≡ corrected X e
 
 -- Demand 3.
-pub demand3 : (X : Sheet) → ValidSheet X → (shown : ℕ) (r : Decoded) (C : Set) → r ≡ keyOrNone X shown → IsCorrection X C
+pub demand3 : (X : Sheet) → ValidSheet X → (r : Decoded) (C : Set) → r ≡ keyOrNone X → IsCorrection X C
     → Demand3 (X .board) (ones (X .syndrome)) (ones (X .loss)) r C
-demand3 X valid shown r C result is = go (noCorrection (X .board) (ones (X .syndrome))) refl
+demand3 X valid r C result is = go (smallestOdd (X .board) (ones (X .syndrome))) refl
   where
     range : InRange (X .board)
     range = valid-in-range (valid .board)
 
-    go : (t : Bool) → noCorrection (X .board) (ones (X .syndrome)) ≡ t → Demand3 (X .board) (ones (X .syndrome)) (ones (X .loss)) r C
-    go true p =
-        refused-demand (X .board) (ones (X .syndrome)) (ones (X .loss)) r C shown (result ∙ rw p)
-        (no-correction-exactly (X .board) range (ones (X .syndrome)) .0 p)
-    go false p =
-        key-demand (X .board) (ones (X .syndrome)) (ones (X .loss)) r C (growths X) (size (X .board) (corrected X)) (result ∙ rw p) has
+    go : (o : Option ℕ) → smallestOdd (X .board) (ones (X .syndrome)) ≡ o → Demand3 (X .board) (ones (X .syndrome)) (ones (X .loss)) r C
+    go (some v) p =
+        refused-demand (X .board) (ones (X .syndrome)) (ones (X .loss)) r C v (result ∙ none-answer X v p)
+        (no-correction-unmet (X .board) range (ones (X .syndrome)) v p)
+    go none p =
+        key-demand (X .board) (ones (X .syndrome)) (ones (X .loss)) r C (growths X) (size (X .board) (corrected X)) (result ∙ key-answer X p) has
         (reached-bounded (X .board) range (ones (X .syndrome)) (ones (X .loss)) C (key-reached X) sub has)
       where
         has : HasSyndrome (X .board) C (ones (X .syndrome))
@@ -94,16 +88,15 @@ demand3 X valid shown r C result is = go (noCorrection (X .board) (ones (X .synd
 pub decodes-demand3 : (X : Sheet) (support correction : List ℕ) (r : Decoded) (support′ correction′ : List ℕ) → ValidSheet X
     → decodeRefusal X support correction ≡ none
     → Decodes X support correction r support′ correction′ → Demand3 (X .board) (ones (X .syndrome)) (ones (X .loss)) r (ones correction′)
-unfolding decodeAnswer
 decodes-demand3 X support correction r support′ correction′ valid passed d =
-    demand3 X valid (d .shown) r (ones correction′) result
+    demand3 X valid r (ones correction′) result
     (record { at = λ p e h. ap (λ l. ones l e) (same p) ∙ ones-bytes (edges (X .board)) (corrected X) e h })
   where
-    result : r ≡ keyOrNone X (d .shown)
-    result = d .result ∙ ap (λ t. answer t Refused (keyOrNone X (d .shown))) passed
+    result : r ≡ keyOrNone X
+    result = d .result ∙ passed-answer X support correction passed
 
-    key : noCorrection (X .board) (ones (X .syndrome)) ≡ false → r ≡ Key (growths X) (size (X .board) (corrected X))
-    key p = result ∙ rw p
+    key : smallestOdd (X .board) (ones (X .syndrome)) ≡ none → r ≡ Key (growths X) (size (X .board) (corrected X))
+    key p = result ∙ key-answer X p
 
-    same : noCorrection (X .board) (ones (X .syndrome)) ≡ false → correction′ ≡ bytes (edges (X .board)) (corrected X)
+    same : smallestOdd (X .board) (ones (X .syndrome)) ≡ none → correction′ ≡ bytes (edges (X .board)) (corrected X)
     same p = d .correction-bytes ∙ ap (λ x. keyOr x (bytes (edges (X .board)) (corrected X)) correction) (key p)

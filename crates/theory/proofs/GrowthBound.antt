@@ -6,6 +6,7 @@ use mathlib.Core.Path.{_≡_, refl, sym, ap, _∙_, subst}
 use mathlib.Core.Bool.{Bool, true, false, cond, not, _&&_, true≢false}
 use mathlib.Core.Logic.{⊎-elim}
 use mathlib.Core.List.{List}
+use mathlib.Core.Option.{none}
 use native.Mathlib.Nat.{le-refl, not-suc-le-zero}
 use native.Mathlib.Omega.{arith}
 use borrow.Author.Tests.{eqb-false}
@@ -18,7 +19,7 @@ use Rattle.model.specs.Winding.{size}
 use Rattle.model.specs.Components.{within}
 use Rattle.model.specs.Growth.{full, clusters, odd, grow, grown}
 use Rattle.model.specs.Correction.{correction}
-use Rattle.model.specs.Decoding.{noCorrection}
+use Rattle.model.specs.Decoding.{smallestOdd}
 use Rattle.model.specs.Demand3.{keptEdges}
 use Rattle.model.proofs.Xor.{equal-xor, not-true-false, and-left, and-right, and-both}
 use Rattle.model.proofs.SumLaws.{below-suc, count-bound, Some}
@@ -153,12 +154,12 @@ module _ (B : Board) (r : InRange B) (S lost E : Set) (has : HasSyndrome B E S) 
 
 -- Where there is a correction, growth ends
 
-module _ (B : Board) (r : InRange B) (S lost : Set) (some-set : noCorrection B S ≡ false) where
+module _ (B : Board) (r : InRange B) (S lost : Set) (none-odd : smallestOdd B S ≡ none) where
   -- at most two growths for each edge
   pub growth-limit : {s : List ℕ} {g : ℕ} → Reached B S lost s g → g ≤ 2 * edges B
   growth-limit c =
       let E = correction B (λ e. true) S in
-      omega (arith, growth-bound B r S lost E (some-correction B r S some-set) c, count-bound (edges B) (kept lost E))
+      omega (arith, growth-bound B r S lost E (some-correction B r S none-odd) c, count-bound (edges B) (kept lost E))
 
   -- while a cluster is odd there are fewer
   pub growth-left : {s : List ℕ} {g a : ℕ} → Reached B S lost s g → OddPart B (clusters B s) S a → g < 2 * edges B

@@ -6,6 +6,7 @@ pub mod Components
 pub mod Forests
 pub mod Existence
 pub mod Corrections
+pub mod SmallestOdd
 pub mod NoCorrection
 pub mod Lines
 pub mod Walks

@@ -4,6 +4,7 @@ use Prim.Native.Nat.{ℕ, _<_}
 use mathlib.Core.Path.{_≡_, refl, sym, ap, _∙_, subst}
 use mathlib.Core.Bool.{Bool, true, false, _&&_, and-false, true≢false}
 use mathlib.Core.Logic.{_↔_}
+use mathlib.Core.Option.{Option, none, some}
 use borrow.Author.Tests.{eqb-true, eqb-false, ne-eqb}
 use lib.Dec.{eqb}
 use Rattle.model.specs.Sums.{Set, _⊕_}
@@ -12,14 +13,15 @@ use Rattle.model.specs.Syndrome.{HasSyndrome}
 use Rattle.model.specs.Components.{label, labels, within}
 use Rattle.model.specs.Growth.{odd}
 use Rattle.model.specs.Correction.{correction}
-use Rattle.model.specs.Decoding.{parts, inOddPart, noCorrection}
+use Rattle.model.specs.Decoding.{parts, inOddPart, smallestOdd}
 use Rattle.model.specs.Demand3.{Unmet}
-use Rattle.model.proofs.Xor.{xor-self, not-false-true}
-use Rattle.model.proofs.SumLaws.{odd-none, some-found, some-none}
+use Rattle.model.proofs.Xor.{xor-self}
+use Rattle.model.proofs.SumLaws.{odd-none, none-first}
 use Rattle.theory.proofs.GrowthRun.{NoneOdd}
 use Rattle.theory.proofs.Syndromes.{InRange, cut-syndrome}
 use Rattle.theory.proofs.Connected.{along}
 use Rattle.theory.proofs.Components.{connected-part, part-own}
+use Rattle.theory.proofs.SmallestOdd.{smallest-odd-exactly}
 use Rattle.theory.proofs.Corrections.{correction-has-syndrome}
 
 -- A set with the syndrome, made of edges of F only, leaves no part of F odd: none of its edges crosses a part.
@@ -54,21 +56,26 @@ even-parts B r F S each = record { even = λ a h. go a h (eqb (label (labels B F
 -- Theorem: no correction
 
 -- where a part of the whole board is odd, no set has the syndrome
-pub no-correction-unmet : (B : Board) → InRange B → (S : Set) → noCorrection B S ≡ true → Unmet B S
-unfolding noCorrection inOddPart parts
-no-correction-unmet B r S p E has =
-    let w = some-found (B .vertices) (inOddPart B S) p in
-    true≢false (sym (w .holds) ∙ part-even B r (λ e. true) E S (λ e h q. refl) has (label (parts B) (w .at)))
+pub no-correction-unmet : (B : Board) → InRange B → (S : Set) (v : ℕ) → smallestOdd B S ≡ some v → Unmet B S
+unfolding inOddPart parts
+no-correction-unmet B r S v p E has =
+    let w = smallest-odd-exactly B S v .0 p in
+    true≢false (sym (w .holds) ∙ part-even B r (λ e. true) E S (λ e h q. refl) has (label (parts B) v))
 
 -- otherwise one has it, a subset of the whole board's forest
-pub some-correction : (B : Board) → InRange B → (S : Set) → noCorrection B S ≡ false → HasSyndrome B (correction B (λ e. true) S) S
-unfolding noCorrection inOddPart parts
+pub some-correction : (B : Board) → InRange B → (S : Set) → smallestOdd B S ≡ none → HasSyndrome B (correction B (λ e. true) S) S
+unfolding smallestOdd inOddPart parts
 some-correction B r S p =
-    correction-has-syndrome B r (λ e. true) S (even-parts B r (λ e. true) S (some-none (B .vertices) (inOddPart B S) p))
+    correction-has-syndrome B r (λ e. true) S (even-parts B r (λ e. true) S (none-first (B .vertices) (inOddPart B S) p))
 
-pub no-correction-exactly : (B : Board) → InRange B → (S : Set) → (noCorrection B S ≡ true) ↔ Unmet B S
-no-correction-exactly B r S = (
-  no-correction-unmet B r S,
-  λ unmet. not-false-true (noCorrection B S)
-      (λ p. unmet (correction B (λ e. true) S) (some-correction B r S p)),
-)
+-- some part is odd: the vertex that number 10 shows
+pub record SomeOdd (B : Board) (S : Set) : Type 0 where
+  pub vertex : ℕ
+  pub smallest : smallestOdd B S ≡ some vertex
+
+pub no-correction-exactly : (B : Board) → InRange B → (S : Set) → SomeOdd B S ↔ Unmet B S
+no-correction-exactly B r S = (λ o. no-correction-unmet B r S (o .vertex) (o .smallest), λ unmet. go unmet (smallestOdd B S) refl)
+  where
+    go : Unmet B S → (o : Option ℕ) → smallestOdd B S ≡ o → SomeOdd B S
+    go unmet (some v) p = record { vertex = v; smallest = p }
+    go unmet none p = absurd (unmet (correction B (λ e. true) S) (some-correction B r S p))

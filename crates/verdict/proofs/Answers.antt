@@ -2,9 +2,8 @@
 -- that decoding wrote. Assumes nothing.
 use Prim.Native.Nat.{ℕ, _≤_, _<_}
 use mathlib.Core.Path.{_≡_, refl, sym, ap, _∙_}
-use mathlib.Core.Bool.{Bool, true, false, cond, false≢true}
 use mathlib.Core.List.{List}
-use mathlib.Core.Option.{none, some, Option·some-ne-none}
+use mathlib.Core.Option.{Option, none, some}
 use native.Mathlib.Omega.{arith}
 use lib.ListN.{length, take, replicate, length-replicate}
 use lib.Seq.{length-take-le}
@@ -16,14 +15,15 @@ use Rattle.model.specs.declared.answers.Verdict.the-variants as verdict
 use Rattle.model.specs.Sums.{Set, _⊕_, bit, ones, bytes}
 use Rattle.model.specs.Board.{Board, Sheet, ValidBytes, edges}
 use Rattle.model.specs.Winding.{together, size}
-use Rattle.model.specs.Decoding.{noCorrection, growths, corrected}
+use Rattle.model.specs.Decoding.{smallestOdd, growths, corrected}
 use Rattle.model.specs.Verdict.{differs, judgedAt, judged}
-use Rattle.model.specs.Refusals.{decodeRefusal, verdictRefusal}
-use Rattle.model.specs.Outcomes.{answer, noneAt, decodeAnswer, keyOr, Decodes, verdictAnswer, Judges}
+use Rattle.model.specs.Refusals.{noneAt, verdictRefusal}
+use Rattle.model.specs.Outcomes.{keyOrNone, keyOr, Decodes, judgedOrNone, verdictAnswer, Judges}
 use Rattle.model.proofs.Contradiction.{zero-one}
 use Rattle.model.proofs.Bits.{bit-bound}
 use Rattle.model.proofs.ListLaws.{ones-bytes, length-values, getD-values}
 use Rattle.theory.proofs.Lines.{crossings-cong}
+use Rattle.theory.proofs.Decodings.{passed-answer, none-answer, key-answer}
 use Rattle.board.proofs.Calls.{passes-decode, passes-verdict}
 use Rattle.verdict.specs.Judging.{Judgeable, Comparable}
 
@@ -60,63 +60,69 @@ judgeable X handed support correction support′ correction′ r g k lent d q =
           (d .correction-bytes ∙ ap (λ a. keyOr a (bytes (edges (X .board)) (corrected X)) correction) q);
     }
 
+-- The verdict's answer
+
 -- a test of the verdict's own fails
 pub refused-judges : (X : Sheet) (handed : List ℕ) (n : Refusal) → verdictRefusal X handed ≡ some n → Judges X handed (verdict.Refused n)
 unfolding verdictAnswer
-refused-judges X handed n p =
-    record { shown = 0; result = rw p; shown-odd = λ q. absurd (Option·some-ne-none n (sym p ∙ q)) }
+refused-judges X handed n p = record { result = rw p }
+
+-- none does: number 10 with the smallest vertex of all odd parts, or the comparison
+pub passed-verdict : (X : Sheet) (handed : List ℕ) → verdictRefusal X handed ≡ none → verdictAnswer X handed ≡ judgedOrNone X handed
+unfolding verdictAnswer
+passed-verdict X handed p = rw p
+
+pub none-verdict : (X : Sheet) (handed : List ℕ) (v : ℕ) → smallestOdd (X .board) (ones (X .syndrome)) ≡ some v
+    → judgedOrNone X handed ≡ verdict.Refused (noneAt v)
+unfolding judgedOrNone
+none-verdict X handed v p = rw p
+
+pub judged-verdict : (X : Sheet) (handed : List ℕ) → smallestOdd (X .board) (ones (X .syndrome)) ≡ none
+    → judgedOrNone X handed ≡ judged (X .board) (ones (X .syndrome)) (corrected X) (ones handed)
+unfolding judgedOrNone
+judged-verdict X handed p = rw p
+
+-- That answer from decoding's
 
 module _ (X : Sheet) (handed support correction support′ correction′ : List ℕ) (lent : Comparable X handed support correction) where
-  passed : decodeRefusal X support correction ≡ none
-  passed =
-      passes-decode X support correction
-      (record { sheet = lent .sheet; support-long = lent .support-long; correction-long = lent .correction-long })
+  decoded-is : (r : Decoded) → Decodes X support correction r support′ correction′ → r ≡ keyOrNone X
+  decoded-is r d =
+      d .result
+      ∙ passed-answer X support correction
+      (passes-decode X support correction
+      (record { sheet = lent .sheet; support-long = lent .support-long; correction-long = lent .correction-long }))
 
-  tested : verdictRefusal X handed ≡ none
-  tested = passes-verdict X handed (record { sheet = lent .sheet; bytes = lent .handed-bytes })
+  judged-is : verdictAnswer X handed ≡ judgedOrNone X handed
+  judged-is = passed-verdict X handed (passes-verdict X handed (record { sheet = lent .sheet; bytes = lent .handed-bytes }))
 
-  keyOrNone : ℕ → Decoded
-  keyOrNone shown =
-      cond (noCorrection (X .board) (ones (X .syndrome)))
-      (decoded.Refused (noneAt shown))
-      (decoded.Key (growths X) (size (X .board) (corrected X)))
-
-  decoded-is : (r : Decoded) (d : Decodes X support correction r support′ correction′) → r ≡ keyOrNone (d .shown)
-  unfolding decodeAnswer keyOrNone
-  decoded-is r d = d .result ∙ ap (λ t. answer t decoded.Refused (keyOrNone (d .shown))) passed
-
-  -- decoding refuses: number 10
+  -- decoding refuses: number 10, with the same vertex
   pub none-judges : (a : Decoded) (n : Refusal) → a ≡ decoded.Refused n → Decodes X support correction a support′ correction′ →
       Judges X handed (verdict.Refused n)
-  unfolding verdictAnswer keyOrNone
-  none-judges a n refused d = go (noCorrection (X .board) (ones (X .syndrome))) refl
+  none-judges a n refused d = go (smallestOdd (X .board) (ones (X .syndrome))) refl
     where
-      go : (t : Bool) → noCorrection (X .board) (ones (X .syndrome)) ≡ t → Judges X handed (verdict.Refused n)
-      go true p =
-          let q : decoded.Refused n ≡ decoded.Refused (noneAt (d .shown)) = sym refused ∙ decoded-is a d ∙ rw p in
-          let same : n ≡ noneAt (d .shown) = cc in
-          record { shown = d .shown; result = rw (tested, p, same); shown-odd = λ z. d .shown-odd passed }
-      go false p =
-          let q : decoded.Refused n ≡ decoded.Key (growths X) (size (X .board) (corrected X)) = sym refused ∙ decoded-is a d ∙ rw p in
+      go : (o : Option ℕ) → smallestOdd (X .board) (ones (X .syndrome)) ≡ o → Judges X handed (verdict.Refused n)
+      go (some v) p =
+          let q : decoded.Refused n ≡ decoded.Refused (noneAt v) = sym refused ∙ decoded-is a d ∙ none-answer X v p in
+          let same : n ≡ noneAt v = cc in
+          record { result = ap verdict.Refused same ∙ sym (judged-is ∙ none-verdict X handed v p) }
+      go none p =
+          let q : decoded.Refused n ≡ decoded.Key (growths X) (size (X .board) (corrected X)) = sym refused ∙ decoded-is a d ∙ key-answer X p in
           zero-one (cc)
 
   -- decoding gives a key: the comparison with the correction that it wrote
   pub key-judges : (a : Decoded) (g k : ℕ) (r : Verdict) → a ≡ decoded.Key g k → Decodes X support correction a support′ correction′ →
       r ≡ judged (X .board) (ones (X .syndrome)) (ones correction′) (ones handed) → Judges X handed r
-  unfolding verdictAnswer keyOrNone
-  key-judges a g k r key d q = go (noCorrection (X .board) (ones (X .syndrome))) refl
+  key-judges a g k r key d q = go (smallestOdd (X .board) (ones (X .syndrome))) refl
     where
-      go : (t : Bool) → noCorrection (X .board) (ones (X .syndrome)) ≡ t → Judges X handed r
-      go true p =
-          let e : decoded.Key g k ≡ decoded.Refused (noneAt (d .shown)) = sym key ∙ decoded-is a d ∙ rw p in
+      go : (o : Option ℕ) → smallestOdd (X .board) (ones (X .syndrome)) ≡ o → Judges X handed r
+      go (some v) p =
+          let e : decoded.Key g k ≡ decoded.Refused (noneAt v) = sym key ∙ decoded-is a d ∙ none-answer X v p in
           zero-one (cc)
-      go false p =
+      go none p =
           record {
-            shown = 0;
             result =
                 q
                 ∙ judged-cong (X .board) (ones (X .syndrome)) (ones correction′) (corrected X) (ones handed)
                 (λ e h. ap (λ l. ones l e) (d .correction-bytes ∙ ap (λ x. keyOr x (bytes (edges (X .board)) (corrected X)) correction) key) ∙ ones-bytes (edges (X .board)) (corrected X) e h)
-                ∙ rw (tested, p);
-            shown-odd = λ z w. absurd (false≢true (sym p ∙ w));
+                ∙ sym (judged-is ∙ judged-verdict X handed p);
           }

@@ -1,27 +1,28 @@
 -- What a marker may rely on follows from the verdict's outcome. Assumes nothing.
 use Prim.Native.Nat.{ℕ, _+_, _*_}
-use mathlib.Core.Path.{_≡_, refl, sym, ap, _∙_}
-use mathlib.Core.Bool.{Bool, true, false, cond}
+use mathlib.Core.Path.{_≡_, refl, sym, _∙_}
+use mathlib.Core.Bool.{false}
 use mathlib.Core.List.{List}
-use mathlib.Core.Option.{none}
+use mathlib.Core.Option.{Option, none, some}
 use Rattle.model.specs.declared.answers.Verdict.{Verdict}
 use Rattle.model.specs.declared.answers.Verdict.the-variants.{Refused}
 use Rattle.model.specs.Sums.{Set, ones}
 use Rattle.model.specs.Board.{Board, Sheet}
 use Rattle.model.specs.Syndrome.{HasSyndrome}
 use Rattle.model.specs.Winding.{winds, together}
-use Rattle.model.specs.Decoding.{noCorrection, corrected}
+use Rattle.model.specs.Decoding.{smallestOdd, corrected}
 use Rattle.model.specs.Demand3.{Unmet, EveryLoopAbove, lostEdges, keptEdges}
 use Rattle.model.specs.Verdict.{judged, SoundVerdict}
-use Rattle.model.specs.Refusals.{verdictRefusal}
-use Rattle.model.specs.Outcomes.{answer, noneAt, verdictAnswer, Judges}
+use Rattle.model.specs.Refusals.{noneAt, verdictRefusal}
+use Rattle.model.specs.Outcomes.{judgedOrNone, Judges}
 use Rattle.model.proofs.Contradiction.{zero-one}
 use Rattle.theory.proofs.Syndromes.{InRange, valid-in-range}
-use Rattle.theory.proofs.NoCorrection.{no-correction-exactly}
+use Rattle.theory.proofs.NoCorrection.{no-correction-unmet}
 use Rattle.theory.proofs.Decodings.{key-reached, corrected-full, corrected-has-syndrome}
 use Rattle.theory.proofs.NotWinding.{not-winding}
 use Rattle.theory.proofs.VerdictGround.{judged-same, judged-wound, unwound-same, judged-answers}
 use Rattle.board.proofs.Calls.{verdict-passes}
+use Rattle.verdict.proofs.Answers.{passed-verdict, none-verdict, judged-verdict}
 
 module _ (B : Board) (S lost C H : Set) where
   -- number 10: no set has the syndrome
@@ -49,8 +50,7 @@ module _ (B : Board) (S lost C H : Set) where
 -- Whatever meets the verdict's outcome on a sheet and a set that pass its tests is what a marker may rely on.
 pub judges-sound : (X : Sheet) (handed : List ℕ) (r : Verdict) → verdictRefusal X handed ≡ none → Judges X handed r →
     SoundVerdict (X .board) (ones (X .syndrome)) (ones (X .loss)) (corrected X) (ones handed) r
-unfolding verdictAnswer
-judges-sound X handed r passed j = go (noCorrection B S) refl
+judges-sound X handed r passed j = go (smallestOdd B S) refl
   where
     B : Board
     B = X .board
@@ -61,17 +61,15 @@ judges-sound X handed r passed j = go (noCorrection B S) refl
     range : InRange B
     range = valid-in-range (verdict-passes X handed passed .sheet .board)
 
-    result : r ≡ cond (noCorrection B S) (Refused (noneAt (j .shown))) (judged B S (corrected X) (ones handed))
-    result =
-        j .result
-        ∙ ap (λ t. answer t Refused (cond (noCorrection B S) (Refused (noneAt (j .shown))) (judged B S (corrected X) (ones handed)))) passed
+    result : r ≡ judgedOrNone X handed
+    result = j .result ∙ passed-verdict X handed passed
 
-    go : (t : Bool) → noCorrection B S ≡ t → SoundVerdict B S (ones (X .loss)) (corrected X) (ones handed) r
-    go true p =
-        sound-none B S (ones (X .loss)) (corrected X) (ones handed) (j .shown) r (result ∙ rw p)
-        (no-correction-exactly B range S .0 p)
-    go false p =
-        sound-judged B S (ones (X .loss)) (corrected X) (ones handed) r (result ∙ rw p) has
+    go : (o : Option ℕ) → smallestOdd B S ≡ o → SoundVerdict B S (ones (X .loss)) (corrected X) (ones handed) r
+    go (some v) p =
+        sound-none B S (ones (X .loss)) (corrected X) (ones handed) v r (result ∙ none-verdict X handed v p)
+        (no-correction-unmet B range S v p)
+    go none p =
+        sound-judged B S (ones (X .loss)) (corrected X) (ones handed) r (result ∙ judged-verdict X handed p) has
         (λ hands above. not-winding B range S (ones (X .loss)) (ones handed) (corrected X) hands has (key-reached X) (corrected-full X) above)
       where
         has : HasSyndrome B (corrected X) S

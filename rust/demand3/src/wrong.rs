@@ -1,7 +1,7 @@
 //! Decoders that document 01 shuts out by demand 3: holding it against each must find a violation.
 
-use reference::board::{Sheet, size};
-use reference::decoding::odd_parts;
+use reference::board::Sheet;
+use reference::decoding::smallest_odd;
 use reference::refusal::{NO_CORRECTION, refuse};
 use reference::{Key, Refusal, decode, peeling};
 
@@ -20,8 +20,8 @@ pub const ALL: [(&str, Decoder, Part); 5] = [
 ];
 
 fn peels_the_board(sheet: &Sheet) -> Result<Key, Refusal> {
-    if size(&odd_parts(&sheet.board, &sheet.syndrome)) > 0 {
-        return refuse(NO_CORRECTION, 0);
+    if let Some(vertex) = smallest_odd(&sheet.board, &sheet.syndrome) {
+        return refuse(NO_CORRECTION, vertex);
     }
     let forest = peeling::forest(&sheet.board, |_| true);
     let correction = peeling::peel(&sheet.board, &forest, &sheet.syndrome).expect("no odd part");

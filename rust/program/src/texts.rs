@@ -1,7 +1,9 @@
 //! The texts that the program is run on.
 
 use reference::board::{Board, Sheet};
-use reference::generators::{Kind, crowd, path, ring, sheet, sheet_of_bytes, star};
+use reference::generators::{
+    Kind, any_syndrome, crowd, late_smallest, path, ring, sheet, sheet_of_bytes, star,
+};
 use reference::torus::torus;
 use reference::{Random, damage, text};
 
@@ -26,6 +28,7 @@ pub fn all() -> Vec<Texts> {
         Texts { what: "at the limits, in pieces", list: limits(), piece: 4099 },
         Texts { what: "large boards", list: large(&mut random), piece: WHOLE },
         Texts { what: "random boards", list: random_boards(&mut random), piece: WHOLE },
+        Texts { what: "odd parts", list: odd_parts(&mut random), piece: WHOLE },
         Texts { what: "each byte damaged", list: damage::each_byte(&small), piece: WHOLE },
         Texts { what: "each line damaged", list: damage::each_line(&small), piece: WHOLE },
         Texts { what: "damaged anywhere", list: damaged(&mut random), piece: WHOLE },
@@ -138,6 +141,16 @@ fn random_boards(random: &mut Random) -> Vec<Vec<u8>> {
     for round in 0..1800 {
         let board = Kind::ALL[round % Kind::ALL.len()].board(random);
         texts.push(text::write(&sheet(random, board)));
+    }
+    texts
+}
+
+/// Several parts, any of them odd, some of them joined so that their smallest vertex comes last.
+fn odd_parts(random: &mut Random) -> Vec<Vec<u8>> {
+    let mut texts = Vec::new();
+    for round in 0..600 {
+        let board = if round % 2 == 0 { late_smallest(random) } else { Kind::Parts.board(random) };
+        texts.push(text::write(&any_syndrome(random, board)));
     }
     texts
 }

@@ -1,6 +1,6 @@
 //! Decoding: the tests, "no correction", growth and peeling.
 
-use crate::board::{Board, Sheet, members, size};
+use crate::board::{Board, Sheet, size};
 use crate::components::components;
 use crate::growth::{self, FULL};
 use crate::peeling;
@@ -27,7 +27,7 @@ pub fn decode(sheet: &Sheet) -> Result<Key, Refusal> {
     decode_into(sheet, edges, edges)
 }
 
-/// Decoding with buffers of these lengths to fill. The vertex of 10 is the smallest.
+/// Decoding with buffers of these lengths to fill.
 pub fn decode_into(sheet: &Sheet, support: usize, correction: usize) -> Result<Key, Refusal> {
     refusal::decoding(sheet, support, correction)?;
     key(sheet)
@@ -36,8 +36,7 @@ pub fn decode_into(sheet: &Sheet, support: usize, correction: usize) -> Result<K
 /// The key of a sheet that breaks no rule, or number 10.
 pub(crate) fn key(sheet: &Sheet) -> Result<Key, Refusal> {
     let board = &sheet.board;
-    let odd = odd_parts(board, &sheet.syndrome);
-    if let Some(vertex) = members(&odd).next() {
+    if let Some(vertex) = smallest_odd(board, &sheet.syndrome) {
         return refuse(NO_CORRECTION, vertex);
     }
     let grown = growth::grow(sheet);
@@ -47,12 +46,12 @@ pub(crate) fn key(sheet: &Sheet) -> Result<Key, Refusal> {
     Ok(Key { growths: grown.growths, support: grown.support, correction })
 }
 
-/// The vertices of all connected parts of the board that hold an odd number of syndrome vertices.
-pub fn odd_parts(board: &Board, syndrome: &[u8]) -> Vec<u8> {
+/// Document 02, K2: the smallest vertex of all connected parts of the board that hold an odd number
+/// of syndrome vertices.
+pub fn smallest_odd(board: &Board, syndrome: &[u8]) -> Option<usize> {
     let part = components(board, |_| true);
-    let mut odd = vec![0; board.vertices];
-    for vertex in members(syndrome) {
-        odd[part[vertex]] ^= 1;
-    }
-    part.into_iter().map(|name| odd[name]).collect()
+    let lit_beside = |vertex: usize| {
+        (0..board.vertices).filter(|&v| part[v] == part[vertex] && syndrome[v] == 1).count()
+    };
+    (0..board.vertices).find(|&vertex| lit_beside(vertex) % 2 == 1)
 }

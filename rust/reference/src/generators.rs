@@ -95,6 +95,28 @@ fn parts(random: &mut Random) -> Board {
     renumbered(random, &Board::new(vertices, &edges))
 }
 
+/// Parts of one to six vertices, numbered at random. Each is a tree to which its smallest vertex is
+/// joined last, so that no union by size has it for a root where the part has three vertices.
+pub fn late_smallest(random: &mut Random) -> Board {
+    let sizes: Vec<_> = (0..random.from_to(2, 5)).map(|_| random.from_to(1, 6)).collect();
+    let vertices = sizes.iter().sum();
+    let name = order(random, vertices);
+    let mut edges = Vec::new();
+    let mut first = 0;
+    for size in sizes {
+        let mut part = name[first..first + size].to_vec();
+        let smallest = (0..size).min_by_key(|&at| part[at]).expect("a vertex");
+        part.swap(smallest, size - 1);
+        for at in 1..size {
+            let ends = [part[at], part[random.below(at)]];
+            let turned = random.below(2);
+            edges.push((ends[turned] as u16, ends[1 - turned] as u16, random.below(4) as u8));
+        }
+        first += size;
+    }
+    Board::new(vertices, &edges)
+}
+
 /// A cycle through all vertices, one of its edges marked, with further edges that have no mark.
 pub fn cycle(random: &mut Random, vertices: usize, chords: usize) -> Board {
     let marked = random.below(vertices);
@@ -166,6 +188,14 @@ fn order(random: &mut Random, count: usize) -> Vec<usize> {
         order.swap(i, random.from_to(0, i));
     }
     order
+}
+
+/// The board with random lost edges and any syndrome at all.
+pub fn any_syndrome(random: &mut Random, board: Board) -> Sheet {
+    let loss = random.set(board.edges(), 200);
+    let rate = [100, 300, 500][random.below(3)];
+    let syndrome = random.set(board.vertices, rate);
+    Sheet { board, syndrome, loss }
 }
 
 /// The board with random lost edges and the syndrome of a random set of edges, often few of each,

@@ -1,46 +1,16 @@
 //! Document 01, "Text": what the decode program prints.
 
 use crate::board::{Board, members};
-use crate::decoding::{Key, decode, odd_parts};
+use crate::decoding::{Key, decode};
 use crate::distance;
-use crate::refusal::{NO_CORRECTION, Refusal};
+use crate::refusal::Refusal;
 use crate::text;
 
-/// What the program may print for one text.
-#[derive(Clone, Debug, PartialEq, Eq)]
-pub enum Output {
-    /// Only this.
-    Exactly(Vec<u8>),
-    /// The line of number 10 with one of these vertices.
-    NoCorrectionAt(Vec<usize>),
-}
-
-impl Output {
-    /// Whether the program may print this.
-    pub fn allows(&self, printed: &[u8]) -> bool {
-        match self {
-            Output::Exactly(expected) => printed == expected,
-            Output::NoCorrectionAt(vertices) => vertices.iter().any(|&vertex| {
-                let place = vertex as u64;
-                printed == refusal_line(Refusal { number: NO_CORRECTION, place })
-            }),
-        }
-    }
-}
-
-/// What the program may print for this text on its standard input.
-pub fn output(input: &[u8]) -> Output {
-    let sheet = match text::read(input) {
-        Ok(sheet) => sheet,
-        Err(refusal) => return Output::Exactly(refusal_line(refusal)),
-    };
-    match decode(&sheet) {
-        Ok(key) => Output::Exactly(key_lines(&sheet.board, &key)),
-        Err(refusal) => {
-            assert_eq!(refusal.number, NO_CORRECTION, "a text that reads keeps all other rules");
-            let odd = odd_parts(&sheet.board, &sheet.syndrome);
-            Output::NoCorrectionAt(members(&odd).collect())
-        }
+/// What the program prints for this text on its standard input.
+pub fn output(input: &[u8]) -> Vec<u8> {
+    match text::read(input).and_then(|sheet| Ok((decode(&sheet)?, sheet.board))) {
+        Ok((key, board)) => key_lines(&board, &key),
+        Err(refusal) => refusal_line(refusal),
     }
 }
 

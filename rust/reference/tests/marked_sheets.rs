@@ -19,6 +19,11 @@ fn refusal(board: Board, lit: &[usize]) -> Refusal {
     decode(&Sheet::new(board, lit, &[])).expect_err("this sheet has no correction")
 }
 
+/// Number 10 with this vertex.
+fn none_at(place: u64) -> Refusal {
+    Refusal { number: NO_CORRECTION, place }
+}
+
 fn listed(set: &[u8]) -> Vec<usize> {
     members(set).collect()
 }
@@ -74,7 +79,7 @@ fn m4() {
 
 #[test]
 fn m5() {
-    assert_eq!(refusal(path(4), &[0, 1, 2]).number, NO_CORRECTION);
+    assert_eq!(refusal(path(4), &[0, 1, 2]), none_at(0));
 }
 
 #[test]
@@ -103,8 +108,16 @@ fn m9() {
     let point = Board::new(1, &[]);
     let key = key(point.clone(), &[], &[]);
     assert_eq!((key.growths, size(&key.correction)), (0, 0));
-    assert_eq!(refusal(point.clone(), &[0]).number, NO_CORRECTION);
+    assert_eq!(refusal(point.clone(), &[0]), none_at(0));
     assert_eq!(found_distance(&point), None);
+}
+
+/// Both edges are odd parts, with the larger end lit. Vertex 1 is neither lit nor the smallest of the
+/// board.
+#[test]
+fn smallest_of_two_odd_parts() {
+    let board = Board::new(5, &[(2, 1, 0), (4, 3, 0)]);
+    assert_eq!(refusal(board, &[2, 4]), none_at(1));
 }
 
 /// The boundary counts vertices: {0} and {2} have one each, so 0 grows, and both edges end full.
@@ -123,6 +136,5 @@ fn ring_text() {
     let sheet = Sheet::new(ring(), &[0, 3], &[]);
     assert_eq!(text::read(input), Ok(sheet.clone()));
     assert_eq!(text::write(&sheet), input);
-    let expected = program::Output::Exactly(b"G\t2\nC\t3\nD\t4\n".to_vec());
-    assert_eq!(program::output(input), expected);
+    assert_eq!(program::output(input), b"G\t2\nC\t3\nD\t4\n");
 }

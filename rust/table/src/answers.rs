@@ -33,7 +33,7 @@ pub enum Verdict {
     Same,
     /// Together with the correction the set winds, with this exclusive or of marks, 1 to 3.
     Wound(u8),
-    /// The refusal that decoding gave, or number 9.
+    /// The refusal that decoding gave, or number 9; 10 with decoding's own vertex.
     Refused(Refusal),
 }
 
@@ -88,7 +88,7 @@ impl fmt::Display for Refusal {
             7 => write!(to, "vertex {place} has a syndrome byte above 1"),
             8 => write!(to, "edge {place} has a loss byte above 1"),
             9 => write!(to, "edge {place} has a handed-in byte above 1"),
-            10 => write!(to, "no correction: the part of vertex {place} is odd"),
+            10 => write!(to, "no correction: vertex {place} is the smallest of all odd parts"),
             11 => write!(to, "torus side {place} is outside 2 to 32"),
             12 => write!(to, "text above 65,536 bytes"),
             13 => write!(to, "line {place} is malformed"),

@@ -60,14 +60,16 @@ pub struct Sheet<'a> {
 /// Decodes a sheet: writes the support of each edge, 0 to 2 half-edges, and a correction byte for
 /// each, 1 where it is in the correction, else 0.
 ///
-/// The correction has the sheet's syndrome. Number 10 says that no set of edges has it.
+/// The correction has the sheet's syndrome. Number 10 says that no set of edges has it, because some
+/// connected part of the board holds an odd number of syndrome vertices; its place is the smallest
+/// vertex of all such parts.
 ///
 /// # Examples
 ///
 /// On a path an odd number of syndrome vertices can't be paired:
 ///
 /// ```
-/// use table::{Board, Decoded, Sheet, decode};
+/// use table::{Board, Decoded, Refusal, Sheet, decode};
 ///
 /// let board = Board { vertices: 4, ends: &[0, 1, 1, 2, 2, 3], marks: &[0; 3] };
 /// let (mut support, mut correction) = ([9; 3], [9; 3]);
@@ -77,9 +79,9 @@ pub struct Sheet<'a> {
 /// assert_eq!(key, Decoded::Key { growths: 6, edges: 3 });
 /// assert_eq!((support, correction), ([2; 3], [1; 3]));
 ///
-/// let three = Sheet { board, syndrome: &[1, 1, 1, 0], loss: &[0; 3] };
-/// let Decoded::Refused(refusal) = decode(three, &mut support, &mut correction) else { panic!() };
-/// assert_eq!(refusal.number, 10);
+/// let three = Sheet { board, syndrome: &[0, 1, 1, 1], loss: &[0; 3] };
+/// let none = Decoded::Refused(Refusal { number: 10, place: 0 });
+/// assert_eq!(decode(three, &mut support, &mut correction), none);
 /// assert_eq!((support, correction), ([2; 3], [1; 3]));
 /// ```
 pub fn decode(sheet: Sheet<'_>, support: &mut [u8], correction: &mut [u8]) -> Decoded {
@@ -109,20 +111,25 @@ pub fn decode(sheet: Sheet<'_>, support: &mut [u8], correction: &mut [u8]) -> De
     }
 }
 
-/// Compares a handed-in set, a byte for each edge, with the correction of a sheet.
+/// Compares a handed-in set, a byte for each edge, with the correction of a sheet. Where there is
+/// none, it refuses as [`decode`] does, with the same vertex.
 ///
 /// # Examples
 ///
 /// The long way round the ring winds with the correction:
 ///
 /// ```
-/// use table::{Board, Sheet, Verdict, verdict};
+/// use table::{Board, Refusal, Sheet, Verdict, verdict};
 ///
 /// let board = Board { vertices: 4, ends: &[0, 1, 1, 2, 2, 3, 3, 0], marks: &[0, 0, 0, 1] };
 /// let sheet = Sheet { board, syndrome: &[1, 0, 0, 1], loss: &[0; 4] };
 /// assert_eq!(verdict(sheet, &[0, 0, 0, 1]), Verdict::Same);
 /// assert_eq!(verdict(sheet, &[1, 1, 1, 0]), Verdict::Wound(1));
 /// assert_eq!(verdict(sheet, &[1, 1, 0, 0]), Verdict::Off(2));
+///
+/// let odd = Sheet { syndrome: &[0, 0, 1, 0], ..sheet };
+/// let none = Verdict::Refused(Refusal { number: 10, place: 0 });
+/// assert_eq!(verdict(odd, &[0; 4]), none);
 /// ```
 pub fn verdict(sheet: Sheet<'_>, handed: &[u8]) -> Verdict {
     let Sheet { board: Board { vertices, ends, marks }, syndrome, loss } = sheet;

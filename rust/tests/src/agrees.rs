@@ -4,9 +4,9 @@
 //! must not touch, shows.
 
 use reference::board::{Board, Sheet, size};
-use reference::decoding::{decode_into, odd_parts};
+use reference::decoding::decode_into;
 use reference::distance::distance_into;
-use reference::refusal::{self, NO_CORRECTION};
+use reference::refusal;
 use reference::text::{self, write_into};
 use reference::torus::torus_into;
 use reference::verdict::{self as plain_verdict, Verdict as PlainVerdict};
@@ -68,17 +68,7 @@ impl LentSheet<'_> {
     }
 }
 
-/// Whether the library may answer with this refusal where the plain decoder answers with that one:
-/// the same, or for number 10 any vertex of any odd part.
-fn may_refuse(sheet: &Sheet, refusal: Refusal, plain: PlainRefusal) -> bool {
-    if plain.number == NO_CORRECTION {
-        let odd = odd_parts(&sheet.board, &sheet.syndrome);
-        let in_odd_part = odd.get(refusal.place as usize) == Some(&1);
-        return refusal.number == NO_CORRECTION && in_odd_part;
-    }
-    is_refusal(refusal, plain)
-}
-
+/// Whether the library refuses as the plain decoder does.
 fn is_refusal(refusal: Refusal, plain: PlainRefusal) -> bool {
     (refusal.number, refusal.place) == (plain.number, plain.place)
 }
@@ -99,7 +89,7 @@ pub fn decode_with(sheet: &Sheet, support: usize, correction: usize) -> Result<K
             Ok(key)
         }
         (Decoded::Refused(refusal), Err(plain)) => {
-            assert!(may_refuse(sheet, refusal, plain), "{refusal:?}, not {plain:?}: {sheet:?}");
+            assert!(is_refusal(refusal, plain), "{refusal:?}, not {plain:?}: {sheet:?}");
             assert_eq!(after, before, "a refusal wrote: {sheet:?}");
             Err(refusal)
         }
@@ -125,7 +115,7 @@ pub fn verdict(sheet: &Sheet, handed: &[u8]) -> Verdict {
         (Verdict::Off(vertex), Ok(PlainVerdict::Off(plain))) => vertex == plain,
         (Verdict::Same, Ok(PlainVerdict::Same)) => true,
         (Verdict::Wound(marks), Ok(PlainVerdict::Wound(plain))) => marks == plain,
-        (Verdict::Refused(refusal), Err(plain)) => may_refuse(sheet, refusal, plain),
+        (Verdict::Refused(refusal), Err(plain)) => is_refusal(refusal, plain),
         _ => false,
     };
     assert!(agrees, "{answer:?}, not {plain:?}: {handed:?} on {sheet:?}");

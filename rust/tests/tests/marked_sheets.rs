@@ -2,7 +2,7 @@
 
 use reference::board::{Board, Sheet, members, together};
 use reference::generators::{path, ring};
-use reference::refusal::NO_CORRECTION;
+use reference::refusal::{NO_CORRECTION, Refusal};
 use reference::torus::torus;
 use table_tests::library;
 
@@ -27,8 +27,12 @@ fn short_key(board: Board, lit: &[usize], lost: &[usize]) -> (usize, Vec<usize>)
     (growths, correction)
 }
 
-fn refused(board: Board, lit: &[usize]) -> u8 {
-    library::decode(&Sheet::new(board, lit, &[])).expect_err("no correction").number
+/// The vertex that number 10 shows.
+fn shown(board: Board, lit: &[usize]) -> u64 {
+    let refusal = library::decode(&Sheet::new(board, lit, &[])).expect_err("no correction");
+    let Refusal { number, place } = refusal;
+    assert_eq!(number, NO_CORRECTION);
+    place
 }
 
 #[test]
@@ -37,13 +41,13 @@ fn keys() {
     assert_eq!(short_key(ring(), &[0, 3], &[0, 1, 2]), (0, vec![0, 1, 2]), "m2");
     assert_eq!(short_key(ring(), &[0, 3], &[0, 1, 2, 3]), (0, vec![0, 1, 2]), "m3");
     assert_eq!(short_key(path(4), &[0, 3], &[]), (6, vec![0, 1, 2]), "m4");
-    assert_eq!(refused(path(4), &[0, 1, 2]), NO_CORRECTION, "m5");
+    assert_eq!(shown(path(4), &[0, 1, 2]), 0, "m5");
     assert_eq!(key(torus(3), &[0, 1], &[]), (2, vec![0], vec![0, 1, 4, 13]), "m6");
     let m7 = (4, vec![0, 3], vec![0, 1, 3, 4, 6, 8, 9, 13]);
     assert_eq!(key(torus(3), &[0, 4], &[]), m7, "m7");
     assert_eq!(short_key(pair(), &[0, 1], &[]), (2, vec![0]), "m8");
     assert_eq!(short_key(point(), &[], &[]), (0, vec![]), "m9");
-    assert_eq!(refused(point(), &[0]), NO_CORRECTION, "m9");
+    assert_eq!(shown(point(), &[0]), 0, "m9");
 }
 
 #[test]

@@ -1,4 +1,4 @@
--- `parts::first_marked` meets its contract. The loop's invariant: no vertex before `v` has a marked root. Assumes nothing.
+-- `parts::first_marked` meets its contract. The loop's invariant: no vertex before `next` has a marked root. Assumes nothing.
 use Prim.Native.Nat.{_≤_, _-_}
 use borrow.Author.Needs.{needs}
 use borrow.Author.Tests.{eq-eqb, ne-eqb}
@@ -9,13 +9,13 @@ use Rattle.parts.proofs.first_marked.Statement.{statement}
 use Rattle.parts.proofs.first_marked.Tie as tie
 
 abbrev Inv-loop : tie.InvT-loop
-Inv-loop vertices parent odd v₀ v = (v ≤ vertices) × Passed (marked parent odd) v
+Inv-loop vertices parent odd next₀ next = Passed (marked parent odd) next × (next ≤ vertices)
 
 abbrev μ-loop : tie.MeasureT-loop
-μ-loop vertices parent odd v₀ v = vertices - v
+μ-loop vertices parent odd next₀ next = vertices - next
 
 loop-holds : tie.Need-loop-holds Inv-loop μ-loop
-loop-holds c = (search needs, passed-none _)
+loop-holds c = (passed-none _, search needs)
 
 cast-vertex : tie.Need-cast-vertex Inv-loop μ-loop
 cast-vertex c = search needs
@@ -32,24 +32,24 @@ element-copy-out-if1 c =
     root-limited (turn .before .before .pre .rooted) (turn .loop-test .taken) (c .before .root-of .ensures)
 
 returns : tie.Need-returns Inv-loop μ-loop
-returns c = ends-at _ (c .before .before .before .before .before .loop .inv .1) (search needs)
+returns c = ends-at _ (c .before .before .before .before .before .loop .inv .0) (search needs)
     (rw (← c .before .before .before .root-of .ensures) (eq-eqb _ _ (c .if1 .taken)))
 
-add-v : tie.Need-add-v Inv-loop μ-loop
-add-v c = search needs
+add-next : tie.Need-add-next Inv-loop μ-loop
+add-next c = search needs
 
 loop-less : tie.Need-loop-less Inv-loop μ-loop
 loop-less c = search needs
 
 loop-again : tie.Need-loop-again Inv-loop μ-loop
 loop-again c = (
-  search needs,
-  passed-more (c .before .before .before .before .before .loop .inv .1)
+  passed-more (c .before .before .before .before .before .loop .inv .0)
       (rw (← c .before .before .before .root-of .ensures) (ne-eqb _ _ (c .if1 .left))),
+  search needs,
 )
 
 returns-2 : tie.Need-returns-2 Inv-loop μ-loop
-returns-2 c = ends-nowhere _ (c .before .loop .inv .1) (c .loop-test .left)
+returns-2 c = ends-nowhere _ (c .before .loop .inv .0) (c .loop-test .left)
 
 pub first-marked-spec : {M : Type 1} → statement M
 first-marked-spec =
@@ -63,7 +63,7 @@ first-marked-spec =
     cast-if1
     element-copy-out-if1
     returns
-    add-v
+    add-next
     loop-less
     loop-again
     returns-2)

@@ -1,0 +1,27 @@
+-- The number is the packed answer of the definition, and the buffers are what `decode` leaves. Assumes nothing.
+use mathlib.Core.Path.{ap, _∙_}
+use borrow.Author.Needs.{needs}
+use Rattle.table.specs.Packing.{packedDecoded}
+use Rattle.table.proofs.Exporting.{decodes}
+use Rattle.table.proofs.surface_decode.Statement.{statement}
+use Rattle.table.proofs.surface_decode.Tie as tie
+
+decode-requires : tie.Need-decode-requires
+decode-requires c κs = search needs
+
+pack-decoded-requires : tie.Need-pack-decoded-requires
+pack-decoded-requires c κs = search needs
+
+same-length : tie.Need-same-length
+same-length c = search needs
+
+same-length-2 : tie.Need-same-length-2
+same-length-2 c = search needs
+
+returns : tie.Need-returns
+returns c =
+    let w = c .before .before .before .before .before .decode .ensures .0 in
+    (c .pack-decoded .ensures ∙ ap packedDecoded (w .result), decodes w)
+
+pub surface-decode-spec : {M : Type 1} → statement M
+surface-decode-spec = tie.close (tie.spec decode-requires pack-decoded-requires same-length same-length-2 returns)

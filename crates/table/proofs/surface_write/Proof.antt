@@ -1,0 +1,24 @@
+-- The number is the packed answer of the definition, and the buffers are what `write` leaves. Assumes nothing.
+use mathlib.Core.Path.{ap, _∙_}
+use borrow.Author.Needs.{needs}
+use Rattle.table.specs.Packing.{packedWritten}
+use Rattle.table.proofs.Exporting.{writes}
+use Rattle.table.proofs.surface_write.Statement.{statement}
+use Rattle.table.proofs.surface_write.Tie as tie
+
+write-requires : tie.Need-write-requires
+write-requires c κs = search needs
+
+pack-written-requires : tie.Need-pack-written-requires
+pack-written-requires c κs = search needs
+
+same-length : tie.Need-same-length
+same-length c = search needs
+
+returns : tie.Need-returns
+returns c =
+    let w = c .before .before .before .write .ensures in
+    (c .pack-written .ensures ∙ ap packedWritten (w .result), writes w)
+
+pub surface-write-spec : {M : Type 1} → statement M
+surface-write-spec = tie.close (tie.spec write-requires pack-written-requires same-length returns)
