@@ -1,7 +1,8 @@
 //! The generators give boards that keep the rules, and sheets of every kind of outcome.
 
 use reference::board::size;
-use reference::generators::{Kind, sheet};
+use reference::components::components;
+use reference::generators::{Kind, late_smallest, sheet};
 use reference::refusal::NO_CORRECTION;
 use reference::{Random, decode};
 
@@ -43,5 +44,21 @@ fn sets_of_a_size() {
     let mut random = Random::new(7);
     for size_asked in 0..=20 {
         assert_eq!(size(&random.set_of_size(20, size_asked)), size_asked);
+    }
+}
+
+#[test]
+fn smallest_vertex_of_a_part_comes_in_its_last_edge() {
+    let mut random = Random::new(8);
+    for _ in 0..300 {
+        let board = late_smallest(&mut random);
+        let part = components(&board, |_| true);
+        for smallest in (0..board.vertices).filter(|&vertex| part[vertex] == vertex) {
+            let inside =
+                (0..board.edges()).filter(|&edge| part[board.ends_of(edge)[0]] == smallest);
+            let at_it = |&edge: &usize| board.ends_of(edge).contains(&smallest);
+            let last: Vec<_> = inside.clone().next_back().into_iter().collect();
+            assert_eq!(inside.filter(at_it).collect::<Vec<_>>(), last, "{board:?}");
+        }
     }
 }
