@@ -2,7 +2,6 @@
 use mathlib.Core.Path.{ap, _∙_}
 use borrow.Author.Needs.{needs}
 use Rattle.table.specs.Packing.{packedDecoded}
-use Rattle.table.proofs.Exporting.{decodes}
 use Rattle.table.proofs.surface_decode.Statement.{statement}
 use Rattle.table.proofs.surface_decode.Tie as tie
 
@@ -21,7 +20,7 @@ same-length-2 c = search needs
 returns : tie.Need-returns
 returns c =
     let w = c .before .before .before .before .before .decode .ensures .0 in
-    (c .pack-decoded .ensures ∙ ap packedDecoded (w .result), decodes w)
+    (c .pack-decoded .ensures ∙ ap packedDecoded (w .result), rw (w .result) at w)
 
 pub surface-decode-spec : {M : Type 1} → statement M
 surface-decode-spec = tie.close (tie.spec decode-requires pack-decoded-requires same-length same-length-2 returns)

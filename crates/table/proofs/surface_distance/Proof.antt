@@ -2,7 +2,6 @@
 use mathlib.Core.Path.{ap, _∙_}
 use borrow.Author.Needs.{needs}
 use Rattle.table.specs.Packing.{packedDistance}
-use Rattle.table.proofs.Exporting.{measures}
 use Rattle.table.proofs.surface_distance.Statement.{statement}
 use Rattle.table.proofs.surface_distance.Tie as tie
 
@@ -18,7 +17,7 @@ same-length c = search needs
 returns : tie.Need-returns
 returns c =
     let w = c .before .before .before .distance .ensures in
-    (c .pack-distance .ensures ∙ ap packedDistance (w .result), measures w)
+    (c .pack-distance .ensures ∙ ap packedDistance (w .result), rw (w .result) at w)
 
 pub surface-distance-spec : {M : Type 1} → statement M
 surface-distance-spec = tie.close (tie.spec distance-requires pack-distance-requires same-length returns)

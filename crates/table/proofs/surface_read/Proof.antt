@@ -2,7 +2,6 @@
 use mathlib.Core.Path.{ap, _∙_}
 use borrow.Author.Needs.{needs}
 use Rattle.table.specs.Packing.{packedReading}
-use Rattle.table.proofs.Exporting.{reads}
 use Rattle.table.proofs.surface_read.Statement.{statement}
 use Rattle.table.proofs.surface_read.Tie as tie
 
@@ -27,7 +26,7 @@ same-length-4 c = search needs
 returns : tie.Need-returns
 returns c =
     let w = c .before .before .before .before .before .before .before .before .before .read .ensures in
-    (c .pack-reading .ensures ∙ ap packedReading (w .result), reads w)
+    (c .pack-reading .ensures ∙ ap packedReading (w .result), rw (w .result) at w)
 
 pub surface-read-spec : {M : Type 1} → statement M
 surface-read-spec = tie.close (tie.spec read-requires pack-reading-requires same-length same-length-2 same-length-3 same-length-4 returns)

@@ -2,7 +2,6 @@
 use mathlib.Core.Path.{ap, _∙_}
 use borrow.Author.Needs.{needs}
 use Rattle.table.specs.Packing.{packedBuilt}
-use Rattle.table.proofs.Exporting.{builds}
 use Rattle.table.proofs.surface_torus.Statement.{statement}
 use Rattle.table.proofs.surface_torus.Tie as tie
 
@@ -21,7 +20,7 @@ same-length-2 c = search needs
 returns : tie.Need-returns
 returns c =
     let w = c .before .before .before .before .before .torus .ensures in
-    (c .pack-built .ensures ∙ ap packedBuilt (w .result), builds w)
+    (c .pack-built .ensures ∙ ap packedBuilt (w .result), rw (w .result) at w)
 
 pub surface-torus-spec : {M : Type 1} → statement M
 surface-torus-spec = tie.close (tie.spec torus-requires pack-built-requires same-length same-length-2 returns)

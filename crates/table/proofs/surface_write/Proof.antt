@@ -2,7 +2,6 @@
 use mathlib.Core.Path.{ap, _∙_}
 use borrow.Author.Needs.{needs}
 use Rattle.table.specs.Packing.{packedWritten}
-use Rattle.table.proofs.Exporting.{writes}
 use Rattle.table.proofs.surface_write.Statement.{statement}
 use Rattle.table.proofs.surface_write.Tie as tie
 
@@ -18,7 +17,7 @@ same-length c = search needs
 returns : tie.Need-returns
 returns c =
     let w = c .before .before .before .write .ensures in
-    (c .pack-written .ensures ∙ ap packedWritten (w .result), writes w)
+    (c .pack-written .ensures ∙ ap packedWritten (w .result), rw (w .result) at w)
 
 pub surface-write-spec : {M : Type 1} → statement M
 surface-write-spec = tie.close (tie.spec write-requires pack-written-requires same-length returns)
