@@ -1,15 +1,14 @@
-// The decode program: a text on standard input, its key on standard output. A refusal prints only its number and place.
-mod print;
-mod sheet;
-
+// The decode program: a text on standard input, its report on standard output. A read that fails counts as the end of the text.
 use libc::STDIN_FILENO;
+use libc::STDOUT_FILENO;
+use report::LONGEST;
+use report::report;
 
 fn main() {
+    // One byte more than the longest text that is read: what does not fit is too long.
     let mut text = [0u8; 65537];
-    let mut ends = [0u16; 8192];
-    let mut marks = [0u8; 4096];
-    let mut syndrome = [0u8; 1024];
-    let mut loss = [0u8; 4096];
-    let n = io::read_full(STDIN_FILENO, &mut text);
-    sheet::answer(&text[..n], &mut ends, &mut marks, &mut syndrome, &mut loss);
+    let mut out = [0u8; LONGEST];
+    let read = io::read_full(STDIN_FILENO, &mut text);
+    let length = report(&text[..read], &mut out);
+    io::write_all(STDOUT_FILENO, &out[..length]);
 }

@@ -16,3 +16,4 @@ pub mod Outcomes
 pub mod MarkedSheets
 pub mod Text
 pub mod TextOutcomes
+pub mod Report

@@ -1,5 +1,5 @@
 -- A number's digits from those of its tenth, and how many there are. Assumes nothing.
-use Prim.Native.Nat.{ℕ, suc, _+_, _*_, _/_, _%_, _≤_}
+use Prim.Native.Nat.{ℕ, zero, suc, _+_, _*_, _/_, _%_, _≤_}
 use mathlib.Core.Path.{_≡_, refl, ap, _∙_}
 use mathlib.Core.Bool.{Bool, true, false}
 use mathlib.Core.List.{[], _∷_, _++_}
@@ -20,8 +20,10 @@ decimal-step n h =
 pub record Digits (b k : ℕ) : Type 0 where
   pub few : (n : ℕ) → n ≤ b → length (decimal n) ≤ k
 
-pub one-digit : Digits 9 1
-one-digit = record { few = λ n h. rw (decimal-digit n (omega arith)) (le-refl _) }
+-- the largest number of k + 1 digits
+abbrev pub nines : ℕ → ℕ
+nines zero = 9
+nines (suc k) = 10 * nines k + 9
 
 -- ten times as much has one digit more
 one-more : (b k : ℕ) → Digits b k → Digits (10 * b + 9) (suc k)
@@ -33,5 +35,6 @@ one-more b k w = record { few = λ n h. go n h (ltb n 10) refl }
         let rest : length (decimal (n / 10)) ≤ k = w .few (n / 10) (omega arith) in
         rw (decimal-step n (ltb-false n 10 p), length-append) (omega arith)
 
-pub four-digits : Digits 9999 4
-four-digits = one-more 999 3 (one-more 99 2 (one-more 9 1 one-digit))
+pub digits : (k : ℕ) → Digits (nines k) (suc k)
+digits zero = record { few = λ n h. rw (decimal-digit n (omega arith)) (le-refl _) }
+digits (suc k) = one-more (nines k) (suc k) (digits k)

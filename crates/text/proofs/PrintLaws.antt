@@ -11,7 +11,7 @@ use Rattle.model.specs.Board.{Sheet, Board, Valid, ValidSheet, edges, firstEnd,
 use Rattle.model.specs.Text.{Line, V-line, E-line, S-line, X-line, newline, letterV, letterE, letterS, letterX, tab, decimal, fieldsOf, bytesOf, printed, edgeLine, linesOf, textOf}
 use Rattle.model.proofs.ListLaws.{values-last}
 use Rattle.text.specs.Printing.{numberBytes, edgeBytes, placeBytes, edgesBytes, listedBytes, sheetBytes}
-use Rattle.text.proofs.DecimalLaws.{one-digit, four-digits}
+use Rattle.text.proofs.DecimalLaws.{digits}
 use Rattle.text.proofs.PutLaws.{length-number, length-edge, length-sheet}
 
 pub printed-append : (xs ys : List Line) → printed (xs ++ ys) ≡ printed xs ++ printed ys
@@ -81,14 +81,14 @@ unfolding edgesBytes
 edges-short B w zero h = omega arith
 edges-short B w (suc k) h =
     let before = edges-short B w k (omega arith) in
-    let first = four-digits .few (firstEnd B k) (omega (arith, w .first-in-range k h, w .vertex-limit)) in
-    let second = four-digits .few (secondEnd B k) (omega (arith, w .second-in-range k h, w .vertex-limit)) in
-    let third = one-digit .few (mark B k) (omega (arith, w .mark-in-range k h)) in
+    let first = digits 3 .few (firstEnd B k) (omega (arith, w .first-in-range k h, w .vertex-limit)) in
+    let second = digits 3 .few (secondEnd B k) (omega (arith, w .second-in-range k h, w .vertex-limit)) in
+    let third = digits 0 .few (mark B k) (omega (arith, w .mark-in-range k h)) in
     let line = length-edge (firstEnd B k) (secondEnd B k) (mark B k) in
     let both = length-append (edgesBytes (B .ends) (B .marks) k) (edgeBytes (firstEnd B k) (secondEnd B k) (mark B k)) in
     omega arith
 
-listed-short : (letter : ℕ) (D : Set) (k : ℕ) → k ≤ 4096 → length (listedBytes letter D k) ≤ 7 * k
+pub listed-short : (letter : ℕ) (D : Set) (k : ℕ) → k ≤ 4096 → length (listedBytes letter D k) ≤ 7 * k
 unfolding listedBytes
 listed-short letter D zero h = omega arith
 listed-short letter D (suc k) h =
@@ -99,7 +99,7 @@ listed-short letter D (suc k) h =
   where
     go : (t : Bool) → length (placeBytes letter k t) ≤ 7
     go true =
-        let digits = four-digits .few k (omega arith) in
+        let digits = digits 3 .few k (omega arith) in
         let line = length-number letter k in
         omega arith
     go false = omega arith
@@ -108,7 +108,7 @@ pub text-short : (X : Sheet) → ValidSheet X → length (sheetBytes X) ≤ 9319
 text-short X w =
     let B = X .board in
     let v = length-number letterV (B .vertices) in
-    let digits = four-digits .few (B .vertices) (omega (arith, w .board .vertex-limit)) in
+    let digits = digits 3 .few (B .vertices) (omega (arith, w .board .vertex-limit)) in
     let e = edges-short B (w .board) (edges B) (le-refl _) in
     let s = listed-short letterS (ones (X .syndrome)) (length (X .syndrome)) (omega (arith, w .syndrome .count, w .board .vertex-limit)) in
     let x = listed-short letterX (ones (X .loss)) (length (X .loss)) (omega (arith, w .loss .count, w .board .edge-limit)) in

@@ -15,7 +15,7 @@ use Rattle.model.specs.declared.answers.Reading.{Reading}
 use Rattle.model.specs.declared.answers.Reading.the-variants as reading
 use Rattle.model.specs.declared.answers.Written.{Written}
 use Rattle.model.specs.declared.answers.Written.the-variants as written
-use Rattle.model.specs.Board.{boardOf, edges, Sheet, sheetOf, ValidSheet}
+use Rattle.model.specs.Board.{boardOf, edges, Sheet, sheetOf, ValidSheet, vertexLimit, edgeLimit}
 use Rattle.model.specs.Refusals.{Test, firstFailure, lengthTest}
 use Rattle.model.specs.Outcomes.{answer}
 use Rattle.model.specs.Text.{Read, complete, refused, textOf, readText}
@@ -231,6 +231,17 @@ read-leaves {text} {ends} {marks} {syndrome} {loss} {ends′} {marks′} {syndro
     let same = same-counts (b .both-counts) in
     subst (Left text) (sym (b .sheet-back) ∙ ap₂ (λ i j. sheetIn i j ends′ marks′ syndrome′ loss′) (sym (same .0)) (sym (same .1)))
     record { valid = w .valid; text-of = w .text-of; within = s .within }
+
+-- Both counts are within the limits.
+pub read-counts :
+    {text ends marks syndrome loss ends′ marks′ syndrome′ loss′ : List ℕ} {n m : ℕ} →
+    Reads text ends marks syndrome loss (reading.Counts n m) ends′ marks′ syndrome′ loss′ →
+    (n ≤ vertexLimit) × (m ≤ edgeLimit)
+read-counts {text} {ends} {marks} {syndrome} {loss} {n = n} {m = m} reads =
+    let s = read-sheet text ends marks syndrome loss n m (reads .result) in
+    let v = written-read text (s .sheet) (s .reads) .valid in
+    let same = same-counts (reads .result ∙ ap counts (s .outcome)) in
+    (rw (same .0) (v .board .vertex-limit), rw (same .1) (v .board .edge-limit))
 
 -- What was read is written back: counts are answered only for a text within the limit.
 pub read-then-write :

@@ -5,7 +5,10 @@ mod first;
 mod line;
 mod lines;
 mod order;
-mod printing;
+pub mod printing;
 pub mod reading;
 mod store;
 pub mod writing;
+
+pub use field::TAB;
+pub use line::NEWLINE;

@@ -1,3 +1,4 @@
+// Lines put into a buffer at a position, byte after byte. Each function hands back the position after what it put.
 use crate::field::DIGIT_ZERO;
 use crate::field::TAB;
 use crate::line::LETTER_E;
@@ -5,11 +6,13 @@ use crate::line::NEWLINE;
 ghost use Prim.Native.Nat.{_+_, _≤_, _<_};
 ghost use mathlib.Core.List.{[], _∷_};
 ghost use lib.ListN.{length};
+ghost use lib.Dec.{eqb};
+ghost use Rattle.model.specs.Sums.{ones};
 ghost use Rattle.model.specs.Text.{decimal};
-ghost use Rattle.text.specs.Printing.{Puts, fieldBytes, numberBytes, edgeBytes};
+ghost use Rattle.text.specs.Printing.{Puts, fieldBytes, numberBytes, edgeBytes, placeBytes, listedBytes};
 
-// Puts a number's digits, the last of them after those of the tens, and hands back the position after them.
-pub fn put_number(out: &mut [u8], at: usize, n: u16) -> usize
+// Puts a number's digits, the last of them after those of the tens.
+pub fn put_number(out: &mut [u8], at: usize, n: usize) -> usize
     requires { ⌜ at + length (decimal n) ≤ length (now out) ⌝ }
     ensures { λ r. ⌜ Puts (decimal n) (now (out .entry)) at r (now (out .exit)) ⌝ }
 {
@@ -22,7 +25,7 @@ pub fn put_number(out: &mut [u8], at: usize, n: u16) -> usize
     last + 1
 }
 
-fn put_byte(out: &mut [u8], at: usize, byte: u8) -> usize
+pub fn put_byte(out: &mut [u8], at: usize, byte: u8) -> usize
     requires { ⌜ at < length (now out) ⌝ }
     ensures { λ r. ⌜ Puts (byte ∷ []) (now (out .entry)) at r (now (out .exit)) ⌝ }
 {
@@ -31,7 +34,7 @@ fn put_byte(out: &mut [u8], at: usize, byte: u8) -> usize
 }
 
 // Puts a tab and a number.
-fn put_field(out: &mut [u8], at: usize, n: u16) -> usize
+pub fn put_field(out: &mut [u8], at: usize, n: usize) -> usize
     requires { ⌜ at + length (fieldBytes n) ≤ length (now out) ⌝ }
     ensures { λ r. ⌜ Puts (fieldBytes n) (now (out .entry)) at r (now (out .exit)) ⌝ }
 {
@@ -40,7 +43,7 @@ fn put_field(out: &mut [u8], at: usize, n: u16) -> usize
 }
 
 // Puts a line of one number.
-pub fn put_line(out: &mut [u8], at: usize, letter: u8, n: u16) -> usize
+pub fn put_line(out: &mut [u8], at: usize, letter: u8, n: usize) -> usize
     requires { ⌜ at + length (numberBytes letter n) ≤ length (now out) ⌝ }
     ensures { λ r. ⌜ Puts (numberBytes letter n) (now (out .entry)) at r (now (out .exit)) ⌝ }
 {
@@ -50,7 +53,7 @@ pub fn put_line(out: &mut [u8], at: usize, letter: u8, n: u16) -> usize
 }
 
 // Puts an edge's line.
-pub fn put_edge(out: &mut [u8], at: usize, first: u16, second: u16, mark: u16) -> usize
+pub fn put_edge(out: &mut [u8], at: usize, first: usize, second: usize, mark: usize) -> usize
     requires { ⌜ at + length (edgeBytes first second mark) ≤ length (now out) ⌝ }
     ensures { λ r. ⌜ Puts (edgeBytes first second mark) (now (out .entry)) at r (now (out .exit)) ⌝ }
 {
@@ -59,4 +62,29 @@ pub fn put_edge(out: &mut [u8], at: usize, first: u16, second: u16, mark: u16) -
     let mark_at = put_field(out, second_at, second);
     let end = put_field(out, mark_at, mark);
     put_byte(out, end, NEWLINE)
+}
+
+// Puts a line for a place that holds 1, and nothing for one that holds 0.
+fn put_place(out: &mut [u8], at: usize, letter: u8, place: usize, byte: u8) -> usize
+    requires { ⌜ at + length (placeBytes letter place (eqb byte 1)) ≤ length (now out) ⌝ }
+    ensures { λ r. ⌜ Puts (placeBytes letter place (eqb byte 1)) (now (out .entry)) at r (now (out .exit)) ⌝ }
+{
+    if byte == 1 {
+        return put_line(out, at, letter, place);
+    }
+    at
+}
+
+// Puts a line for each place that holds 1, rising.
+pub fn put_listed(out: &mut [u8], at: usize, letter: u8, bytes: &[u8]) -> usize
+    requires { ⌜ at + length (listedBytes letter (ones (now bytes)) (length (now bytes))) ≤ length (now out) ⌝ }
+    ensures { λ r. ⌜ Puts (listedBytes letter (ones (now (bytes .entry))) (length (now (bytes .entry)))) (now (out .entry)) at r (now (out .exit)) ⌝ }
+{
+    let mut next = at;
+    let mut i = 0;
+    while i < bytes.len() {
+        next = put_place(out, next, letter, i, bytes[i]);
+        i += 1;
+    }
+    next
 }

@@ -4,6 +4,7 @@ use crate::line::LETTER_V;
 use crate::line::LETTER_X;
 use crate::printing::put_edge;
 use crate::printing::put_line;
+use crate::printing::put_listed;
 use board::lent::check_sheet;
 use board::outcome::Check;
 use model::answers::Written;
@@ -12,11 +13,9 @@ use model::refusal::Refusal;
 ghost use mathlib.Core.Path.{_≡_};
 ghost use Prim.Native.Nat.{_+_, _*_, _≤_};
 ghost use lib.ListN.{length};
-ghost use lib.Dec.{eqb};
 ghost use Rattle.model.specs.Board.{boardOf, sheetOf};
-ghost use Rattle.model.specs.Sums.{ones};
 ghost use Rattle.model.specs.TextOutcomes.{Writes};
-ghost use Rattle.text.specs.Printing.{Puts, placeBytes, edgesBytes, listedBytes, sheetBytes};
+ghost use Rattle.text.specs.Printing.{Puts, edgesBytes, sheetBytes};
 
 // The longest text of any sheet: 7 bytes for `V`, 14 for an edge, 7 for a syndrome vertex and for a lost edge.
 const LONGEST: usize = 93191;
@@ -31,51 +30,25 @@ fn put_edges(out: &mut [u8], at: usize, ends: &[u16], marks: &[u8]) -> usize
     let mut e = 0;
     while e < marks.len() {
         let i = 2 * e;
-        let first = ends[i];
-        let second = ends[i + 1];
-        let mark = marks[e] as u16;
+        let first = ends[i] as usize;
+        let second = ends[i + 1] as usize;
+        let mark = marks[e] as usize;
         next = put_edge(out, next, first, second, mark);
         e += 1;
     }
     next
 }
 
-// Puts a line for a place that holds 1, and nothing for one that holds 0.
-fn put_place(out: &mut [u8], at: usize, letter: u8, place: u16, byte: u8) -> usize
-    requires { ⌜ at + length (placeBytes letter place (eqb byte 1)) ≤ length (now out) ⌝ }
-    ensures { λ r. ⌜ Puts (placeBytes letter place (eqb byte 1)) (now (out .entry)) at r (now (out .exit)) ⌝ }
-{
-    if byte == 1 {
-        return put_line(out, at, letter, place);
-    }
-    at
-}
-
-// Puts a line for each place that holds 1, rising.
-fn put_listed(out: &mut [u8], at: usize, letter: u8, bytes: &[u8]) -> usize
-    requires { ⌜ length (now bytes) ≤ 4096 ⌝ }
-    requires { ⌜ at + length (listedBytes letter (ones (now bytes)) (length (now bytes))) ≤ length (now out) ⌝ }
-    ensures { λ r. ⌜ Puts (listedBytes letter (ones (now (bytes .entry))) (length (now (bytes .entry)))) (now (out .entry)) at r (now (out .exit)) ⌝ }
-{
-    let mut next = at;
-    let mut i = 0;
-    while i < bytes.len() {
-        next = put_place(out, next, letter, i as u16, bytes[i]);
-        i += 1;
-    }
-    next
-}
-
 // Puts all lines of a sheet, and hands back their length.
 fn put_sheet(
-    vertices: u16,
+    vertices: usize,
     ends: &[u16],
     marks: &[u8],
     syndrome: &[u8],
     loss: &[u8],
     out: &mut [u8],
 ) -> usize
-    requires { ⌜ (length (now ends) ≡ 2 * length (now marks)) × (length (now syndrome) ≤ 4096) × (length (now loss) ≤ 4096) ⌝ }
+    requires { ⌜ length (now ends) ≡ 2 * length (now marks) ⌝ }
     requires { ⌜ length (sheetBytes (sheetOf (boardOf vertices (now ends) (now marks)) (now syndrome) (now loss))) ≤ length (now out) ⌝ }
     ensures { λ r. ⌜ Puts (sheetBytes (sheetOf (boardOf vertices (now (ends .entry)) (now (marks .entry))) (now (syndrome .entry)) (now (loss .entry)))) (now (out .entry)) 0 r (now (out .exit)) ⌝ }
 {
@@ -100,7 +73,7 @@ pub fn write(
         return Written::Refused(refusal);
     }
     let mut lines = [0u8; LONGEST];
-    let length = put_sheet(vertices as u16, ends, marks, syndrome, loss, &mut lines);
+    let length = put_sheet(vertices, ends, marks, syndrome, loss, &mut lines);
     if TEXT < length {
         return Written::Refused(Refusal::TextLength);
     }

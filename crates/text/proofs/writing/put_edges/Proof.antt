@@ -32,6 +32,9 @@ mul-first c = search needs
 shared-slice-read-first : tie.Need-shared-slice-read-first Inv-loop μ-loop
 shared-slice-read-first c = search needs
 
+cast-first : tie.Need-cast-first Inv-loop μ-loop
+cast-first c = omega (arith, c .shared-slice-known3 .given (2 * c .before .before .loop .e))
+
 add-second : tie.Need-add-second Inv-loop μ-loop
 add-second c = search needs
 
@@ -40,6 +43,9 @@ mul-second c = search needs
 
 shared-slice-read-second : tie.Need-shared-slice-read-second Inv-loop μ-loop
 shared-slice-read-second c = search needs
+
+cast-second : tie.Need-cast-second Inv-loop μ-loop
+cast-second c = omega (arith, c .shared-slice-known4 .given (2 * c .before .before .before .loop .e + 1))
 
 shared-slice-read-mark : tie.Need-shared-slice-read-mark Inv-loop μ-loop
 shared-slice-read-mark c = search needs
@@ -86,9 +92,11 @@ put-edges-spec =
     mul-i
     mul-first
     shared-slice-read-first
+    cast-first
     add-second
     mul-second
     shared-slice-read-second
+    cast-second
     shared-slice-read-mark
     cast-mark
     put-edge-requires

@@ -10,28 +10,22 @@ use Rattle.text.proofs.writing.put_sheet.Reads as reads
 use Rattle.text.proofs.writing.put_sheet.Lts as lts
 use Rattle.text.proofs.printing.put_line.Reads as put-line-reads
 use Rattle.text.proofs.writing.put_edges.Reads as put-edges-reads
-use Rattle.text.proofs.writing.put_listed.Reads as put-listed-reads
+use Rattle.text.proofs.printing.put_listed.Reads as put-listed-reads
 
 put-line-requires : tie.Need-put-line-requires
 put-line-requires c κs = omega (arith, length-sheet (sheetOf (boardOf (c .before .before .before .before .before .before .args .vertices) (now (c .before .before .before .before .before .before .args .ends)) (now (c .before .before .before .before .before .before .args .marks))) (now (c .before .before .before .before .before .before .args .syndrome)) (now (c .before .before .before .before .before .before .args .loss))), c .before .before .before .before .before .before .pre .1)
 
 put-edges-requires : tie.Need-put-edges-requires
 put-edges-requires c κs = (
-  c .before .before .before .before .before .before .before .before .before .before .pre .0 .0,
+  c .before .before .before .before .before .before .before .before .before .before .pre .0,
   omega (arith, length-sheet (sheetOf (boardOf (c .before .before .before .before .before .before .before .before .before .before .args .vertices) (now (c .before .before .before .before .before .before .before .before .before .before .args .ends)) (now (c .before .before .before .before .before .before .before .before .before .before .args .marks))) (now (c .before .before .before .before .before .before .before .before .before .before .args .syndrome)) (now (c .before .before .before .before .before .before .before .before .before .before .args .loss))), c .before .before .before .before .before .before .before .before .before .before .pre .1, c .before .before .before .put-line .ensures .position, long (c .before .before .before .put-line .ensures)),
 )
 
 put-listed-requires : tie.Need-put-listed-requires
-put-listed-requires c κs = (
-  c .before .before .before .before .before .before .before .before .before .before .before .before .before .before .pre .0 .1,
-  omega (arith, length-sheet (sheetOf (boardOf (c .before .before .before .before .before .before .before .before .before .before .before .before .before .before .args .vertices) (now (c .before .before .before .before .before .before .before .before .before .before .before .before .before .before .args .ends)) (now (c .before .before .before .before .before .before .before .before .before .before .before .before .before .before .args .marks))) (now (c .before .before .before .before .before .before .before .before .before .before .before .before .before .before .args .syndrome)) (now (c .before .before .before .before .before .before .before .before .before .before .before .before .before .before .args .loss))), c .before .before .before .before .before .before .before .before .before .before .before .before .before .before .pre .1, c .before .before .before .before .before .before .before .put-line .ensures .position, c .before .before .before .put-edges .ensures .position, long (c .before .before .before .before .before .before .before .put-line .ensures), long (c .before .before .before .put-edges .ensures)),
-)
+put-listed-requires c κs = omega (arith, length-sheet (sheetOf (boardOf (c .before .before .before .before .before .before .before .before .before .before .before .before .before .before .args .vertices) (now (c .before .before .before .before .before .before .before .before .before .before .before .before .before .before .args .ends)) (now (c .before .before .before .before .before .before .before .before .before .before .before .before .before .before .args .marks))) (now (c .before .before .before .before .before .before .before .before .before .before .before .before .before .before .args .syndrome)) (now (c .before .before .before .before .before .before .before .before .before .before .before .before .before .before .args .loss))), c .before .before .before .before .before .before .before .before .before .before .before .before .before .before .pre .1, c .before .before .before .before .before .before .before .put-line .ensures .position, c .before .before .before .put-edges .ensures .position, long (c .before .before .before .before .before .before .before .put-line .ensures), long (c .before .before .before .put-edges .ensures))
 
 put-listed-requires-2 : tie.Need-put-listed-requires-2
-put-listed-requires-2 c κs = (
-  c .before .before .before .before .before .before .before .before .before .before .before .before .before .before .before .before .before .before .pre .0 .2,
-  omega (arith, length-sheet (sheetOf (boardOf (c .before .before .before .before .before .before .before .before .before .before .before .before .before .before .before .before .before .before .args .vertices) (now (c .before .before .before .before .before .before .before .before .before .before .before .before .before .before .before .before .before .before .args .ends)) (now (c .before .before .before .before .before .before .before .before .before .before .before .before .before .before .before .before .before .before .args .marks))) (now (c .before .before .before .before .before .before .before .before .before .before .before .before .before .before .before .before .before .before .args .syndrome)) (now (c .before .before .before .before .before .before .before .before .before .before .before .before .before .before .before .before .before .before .args .loss))), c .before .before .before .before .before .before .before .before .before .before .before .before .before .before .before .before .before .before .pre .1, c .before .before .before .before .before .before .before .before .before .before .before .put-line .ensures .position, c .before .before .before .before .before .before .before .put-edges .ensures .position, c .before .before .before .put-listed .ensures .position, long (c .before .before .before .before .before .before .before .before .before .before .before .put-line .ensures), long (c .before .before .before .before .before .before .before .put-edges .ensures), long (c .before .before .before .put-listed .ensures)),
-)
+put-listed-requires-2 c κs = omega (arith, length-sheet (sheetOf (boardOf (c .before .before .before .before .before .before .before .before .before .before .before .before .before .before .before .before .before .before .args .vertices) (now (c .before .before .before .before .before .before .before .before .before .before .before .before .before .before .before .before .before .before .args .ends)) (now (c .before .before .before .before .before .before .before .before .before .before .before .before .before .before .before .before .before .before .args .marks))) (now (c .before .before .before .before .before .before .before .before .before .before .before .before .before .before .before .before .before .before .args .syndrome)) (now (c .before .before .before .before .before .before .before .before .before .before .before .before .before .before .before .before .before .before .args .loss))), c .before .before .before .before .before .before .before .before .before .before .before .before .before .before .before .before .before .before .pre .1, c .before .before .before .before .before .before .before .before .before .before .before .put-line .ensures .position, c .before .before .before .before .before .before .before .put-edges .ensures .position, c .before .before .before .put-listed .ensures .position, long (c .before .before .before .before .before .before .before .before .before .before .before .put-line .ensures), long (c .before .before .before .before .before .before .before .put-edges .ensures), long (c .before .before .before .put-listed .ensures))
 
 same-length : tie.Need-same-length
 same-length c = search needs

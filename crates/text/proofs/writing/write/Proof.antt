@@ -36,18 +36,13 @@ enum-told c = search needs
 passes : (c : tie.After-enum-told) → sheetRefusal (sheetOf (boardOf (c .before .before .before .before .before .before .before .before .args .vertices) (now (c .before .before .before .before .before .before .before .before .args .ends)) (now (c .before .before .before .before .before .before .before .before .args .marks))) (now (c .before .before .before .before .before .before .before .before .args .syndrome)) (now (c .before .before .before .before .before .before .before .before .args .loss))) true ≡ none
 passes c = sym (c .before .before .check-sheet .ensures) ∙ ap testOf (c .enum-told .given .1)
 
-cast-put-sheet : tie.Need-cast-put-sheet
-cast-put-sheet c =
-    let w = valid (sheetOf (boardOf (c .before .before .before .before .before .before .before .before .args .vertices) (now (c .before .before .before .before .before .before .before .before .args .ends)) (now (c .before .before .before .before .before .before .before .before .args .marks))) (now (c .before .before .before .before .before .before .before .before .args .syndrome)) (now (c .before .before .before .before .before .before .before .before .args .loss))) (now (c .before .before .before .before .before .before .before .before .args .text)) (passes c) in
-    omega (arith, w .board .vertex-limit)
-
 slice-aggregate-put-sheet : tie.Need-slice-aggregate-put-sheet
 slice-aggregate-put-sheet c = search needs
 
 put-sheet-requires : tie.Need-put-sheet-requires
 put-sheet-requires c κs =
     let w = valid (sheetOf (boardOf (c .before .before .before .before .before .before .before .before .before .args .vertices) (now (c .before .before .before .before .before .before .before .before .before .args .ends)) (now (c .before .before .before .before .before .before .before .before .before .args .marks))) (now (c .before .before .before .before .before .before .before .before .before .args .syndrome)) (now (c .before .before .before .before .before .before .before .before .before .args .loss))) (now (c .before .before .before .before .before .before .before .before .before .args .text)) (passes (c .before)) in (
-      (w .board .two-ends, omega (arith, w .syndrome .count, w .board .vertex-limit), omega (arith, w .loss .count, w .board .edge-limit)),
+      w .board .two-ends,
       text-short (sheetOf (boardOf (c .before .before .before .before .before .before .before .before .before .args .vertices) (now (c .before .before .before .before .before .before .before .before .before .args .ends)) (now (c .before .before .before .before .before .before .before .before .before .args .marks))) (now (c .before .before .before .before .before .before .before .before .before .args .syndrome)) (now (c .before .before .before .before .before .before .before .before .before .args .loss))) w,
     )
 
@@ -84,7 +79,6 @@ write-spec =
     enum-known-refusal
     returns
     enum-told
-    cast-put-sheet
     slice-aggregate-put-sheet
     put-sheet-requires
     returns-2

@@ -1,4 +1,4 @@
--- `text::writing::put_listed` meets its contract. The loop's invariant: so many places are gone through. Assumes nothing.
+-- `text::printing::put_listed` meets its contract. The loop's invariant: so many places are gone through. Assumes nothing.
 use Prim.Native.Nat.{ℕ, _+_, _-_, _≤_}
 use mathlib.Core.Path.{_≡_, refl, sym, ap, subst, _∙_}
 use native.Mathlib.Omega.{arith}
@@ -8,11 +8,11 @@ use lib.ListN.{length, getD}
 use Rattle.model.specs.Sums.{ones}
 use Rattle.text.specs.Printing.{Puts, listedBytes, placeBytes}
 use Rattle.text.proofs.PutLaws.{then, long, put-none, listed-more, listed-fit}
-use Rattle.text.proofs.writing.put_listed.Statement.{statement}
-use Rattle.text.proofs.writing.put_listed.Tie as tie
-use Rattle.text.proofs.writing.put_listed.Reads as reads
-use Rattle.text.proofs.writing.put_listed.Lts as lts
-use Rattle.text.proofs.writing.put_place.Reads as put-place-reads
+use Rattle.text.proofs.printing.put_listed.Statement.{statement}
+use Rattle.text.proofs.printing.put_listed.Tie as tie
+use Rattle.text.proofs.printing.put_listed.Reads as reads
+use Rattle.text.proofs.printing.put_listed.Lts as lts
+use Rattle.text.proofs.printing.put_place.Reads as put-place-reads
 
 abbrev Inv-loop : tie.InvT-loop
 Inv-loop out₀ at letter bytes next₀ i₀ out next i = (i ≤ length bytes) × Puts (listedBytes letter (ones bytes) i) out₀ at next out
@@ -24,9 +24,6 @@ loop-holds : tie.Need-loop-holds Inv-loop μ-loop
 unfolding listedBytes
 loop-holds c = (omega arith, put-none _ _)
 
-cast-put-place : tie.Need-cast-put-place Inv-loop μ-loop
-cast-put-place c = search needs
-
 shared-slice-read-put-place : tie.Need-shared-slice-read-put-place Inv-loop μ-loop
 shared-slice-read-put-place c = search needs
 
@@ -35,7 +32,7 @@ put-place-requires c κs =
     let w = c .before .before .before .loop in
     let done = w .inv .1 in
     let fit = listed-fit (c .before .before .before .before .before .before .args .letter) (ones (now (c .before .before .before .before .before .before .args .bytes))) (length (now (c .before .before .before .before .before .before .args .bytes))) (w .i) (c .before .before .loop-test .taken) in
-    omega (arith, done .position, long done, c .before .before .before .before .before .before .pre .1)
+    omega (arith, done .position, long done, c .before .before .before .before .before .before .pre)
 
 add-i : tie.Need-add-i Inv-loop μ-loop
 add-i c = search needs
@@ -66,7 +63,6 @@ put-listed-spec =
     Inv-loop
     μ-loop
     loop-holds
-    cast-put-place
     shared-slice-read-put-place
     put-place-requires
     add-i

@@ -1,0 +1,58 @@
+// The lines that are not of one number: a refusal's, and the distance's where there may be none.
+use model::answers::Distance;
+use model::refusal::Refusal;
+use model::refusal::number;
+use model::refusal::place;
+use text::NEWLINE;
+use text::TAB;
+use text::printing::put_byte;
+use text::printing::put_field;
+use text::printing::put_line;
+ghost use Prim.Native.Nat.{_+_, _≤_};
+ghost use mathlib.Core.Option.{none};
+ghost use lib.ListN.{length};
+ghost use Rattle.model.specs.Report.{refusalLine, distanceLine, InFront};
+ghost use Rattle.text.specs.Printing.{Puts};
+ghost use Rattle.report.specs.Lines.{fewestIn};
+
+const LETTER_D: u8 = 68;
+
+const LETTER_N: u8 = 78;
+
+const DASH: u8 = 45;
+
+// Puts a refusal's line at the begin: number, place.
+pub(crate) fn put_refusal(out: &mut [u8], refusal: Refusal) -> usize
+    requires { ⌜ 27 ≤ length (now out) ⌝ }
+    ensures { λ r. ⌜ InFront (refusalLine refusal) (now (out .entry)) r (now (out .exit)) ⌝ }
+{
+    let number = number(refusal) as usize;
+    let place = place(refusal);
+    let number_at = put_byte(out, 0, LETTER_N);
+    let place_at = put_field(out, number_at, number);
+    let end = put_field(out, place_at, place);
+    put_byte(out, end, NEWLINE)
+}
+
+// Puts the line of a board without a winding loop.
+fn put_dash(out: &mut [u8], at: usize) -> usize
+    requires { ⌜ at + 4 ≤ length (now out) ⌝ }
+    ensures { λ r. ⌜ Puts (distanceLine none) (now (out .entry)) at r (now (out .exit)) ⌝ }
+{
+    let tab_at = put_byte(out, at, LETTER_D);
+    let dash_at = put_byte(out, tab_at, TAB);
+    let end = put_byte(out, dash_at, DASH);
+    put_byte(out, end, NEWLINE)
+}
+
+// Puts the line of a distance. That of a valid board, which alone is asked for, is no refusal.
+pub(crate) fn put_distance(out: &mut [u8], at: usize, distance: Distance) -> usize
+    requires { ⌜ at + length (distanceLine (fewestIn distance)) ≤ length (now out) ⌝ }
+    ensures { λ r. ⌜ Puts (distanceLine (fewestIn distance)) (now (out .entry)) at r (now (out .exit)) ⌝ }
+{
+    match distance {
+        Distance::Fewest(fewest) => put_line(out, at, LETTER_D, fewest),
+        Distance::Nothing => put_dash(out, at),
+        Distance::Refused(_) => put_dash(out, at),
+    }
+}
