@@ -7,7 +7,7 @@ use native.Mathlib.Omega.{arith}
 use Rattle.model.specs.declared.numbers.Vertex.{Vertex}
 use Rattle.union_find.specs.declared.Joined.{Joined}
 use Rattle.union_find.specs.declared.Joined.the-variants.{Hung}
-use Rattle.union_find.specs.Trees.{at, rootOf, Compressed}
+use Rattle.union_find.specs.Trees.{at, rootOf, RootIs, Compressed}
 use Rattle.union_find.specs.Joining.{joined, Joinable, Joins, sameRoot}
 use Rattle.union_find.proofs.Roots.{root-self, root-top, root-inside}
 use Rattle.union_find.proofs.Hanging.{hung-parent}
@@ -18,16 +18,25 @@ use Rattle.decoder.specs.declared.book.Found.{Found}
 use Rattle.decoder.specs.Books.{together, Kept, Finds, BothKept, Fuses}
 
 -- a path compressed, and the root at its end
-pub finds : (b : Book) (v : ℕ) (p : List ℕ) (root : Vertex) → Kept b v → Compressed (b .parent) p → root .0 ≡ rootOf (b .parent) v
+pub finds : (b : Book) (v : ℕ) (p : List ℕ) (root : Vertex) → Kept b v → Compressed (b .parent) v (root .0) p
+    → root .0 ≡ rootOf (b .parent) v
     → Finds b v (record { book = record { vertices = b .vertices; parent = p; size = b .size }; root = root })
 finds b v p root k w is =
     record {
-      good = compressed-trees w (k .good);
+      good = compressed-trees top w (k .good);
       vertices = refl;
       sizes = refl;
-      roots = compressed-roots w (k .good .climbs);
+      roots = compressed-roots top w (k .good .climbs);
       root = is;
+      compressed = rw is at w;
     }
+  where
+    top : RootIs (b .parent) v (root .0)
+    top =
+        record {
+          way = record { count = b .vertices; size = b .size; climbs = k .good .climbs; vertex = k .vertex };
+          root = is;
+        }
 
 module _ (b : Book) (x y : ℕ) (k : BothKept b x y) (f g : Found) (one : Finds b x f) (other : Finds (f .book) y g) where
   same-count : g .book .vertices ≡ b .vertices

@@ -11,7 +11,7 @@ use Rattle.model.specs.Components.{label, labels}
 use Rattle.model.specs.Growth.{clusters, grow}
 use Rattle.model.specs.declared.numbers.Vertex.{Vertex}
 use Rattle.union_find.specs.declared.Joined.the-variants.{Hung}
-use Rattle.union_find.specs.Trees.{at, rootOf, Trees, Alone}
+use Rattle.union_find.specs.Trees.{at, rootOf, Trees, Alone, Compressed}
 use Rattle.union_find.specs.Joining.{joined, sameRoot, Mirrors}
 use Rattle.decoder.specs.Lent.{unmarked, Ends}
 use Rattle.decoder.specs.Gains.{Supports, listed}
@@ -43,13 +43,14 @@ pub record Kept (b : Book) (v : ℕ) : Type 0 where
   pub good : Good b
   pub vertex : v < b .vertices
 
--- the root of v; every vertex keeps its root, and every tree its size
+-- The root of v, with the way up to it compressed: so every vertex keeps its root, and every tree its size.
 pub record Finds (b : Book) (v : ℕ) (r : Found) : Type 0 where
   pub good : Good (r .book)
   pub vertices : r .book .vertices ≡ b .vertices
   pub sizes : r .book .size ≡ b .size
   pub roots : (u : ℕ) → u < b .vertices → rootOf (r .book .parent) u ≡ rootOf (b .parent) u
   pub root : r .root .0 ≡ rootOf (b .parent) v
+  pub compressed : Compressed (b .parent) v (rootOf (b .parent) v) (r .book .parent)
 
 pub record BothKept (b : Book) (x y : ℕ) : Type 0 where
   pub good : Good b

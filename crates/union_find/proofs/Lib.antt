@@ -8,3 +8,4 @@ pub mod Compression
 pub mod Fresh
 pub mod Labels
 pub mod Subtrees
+pub mod CompressLoop

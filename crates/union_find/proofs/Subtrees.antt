@@ -2,7 +2,7 @@
 use Prim.Native.Nat.{ℕ, zero, suc, _-_, _≤_, _<_}
 use mathlib.Core.Path.{_≡_, refl, sym, ap, _∙_}
 use mathlib.Core.Logic.{_≢_}
-use mathlib.Core.Bool.{true, not, _||_, or-self}
+use mathlib.Core.Bool.{true, false, not, _||_, or-self}
 use mathlib.Core.List.{List}
 use native.Mathlib.Nat.{le-of-eq}
 use native.Mathlib.Decide.{ℕ-discrete}
@@ -25,6 +25,15 @@ root-under p z u q (suc k) = ap (λ b. eqb u z || b) (ap (underUpTo p k z) q ∙
 pub under-root : (p : List ℕ) (z u : ℕ) → at p u ≡ u → under p z u ≡ eqb u z
 unfolding under
 under-root p z u q = root-under p z u q (length p)
+
+-- the way up from u begins at u
+pub under-self : (p : List ℕ) (u : ℕ) → under p u u ≡ true
+unfolding under underUpTo
+under-self p u = go (length p)
+  where
+    go : (k : ℕ) → underUpTo p k u u ≡ true
+    go zero = eq-eqb u u refl
+    go (suc k) = rw (eq-eqb u u refl)
 
 module _ {n : ℕ} {p s : List ℕ} (t : Climbs n p s) where
   -- sizes rise on the way up
@@ -57,18 +66,31 @@ module _ {n : ℕ} {p s : List ℕ} (t : Climbs n p s) where
       go u h q up (suc k) few =
           ap (λ b. eqb u z || b) (up k (omega (arith, t .rising u h q, t .bounded (at p u) (t .inside u h))))
 
+  -- no way up comes back to where it began
+  pub under-before : (u : ℕ) → u < n → at p u ≢ u → under p u (at p u) ≡ false
+  unfolding under
+  under-before u h q =
+      not-true-false _ (λ on. omega (arith, t .rising u h q, under-larger u (at p u) (t .inside u h) (length p) on))
+
   -- a vertex is at z, or its parent is at z or below it, and never both
   pub under-parent : (z u : ℕ) → u < n → at p u ≢ u → under p z u ≡ eqb u z ⊕ under p z (at p u)
   unfolding under underUpTo
   under-parent z u h q =
       under-enough z u h (length p) (omega (arith, t .parents))
       ∙ elim (ℕ-discrete u z) [
-        | yes e ↦ rw (eq-eqb u z e) (sym (ap not (not-true-false _ (λ w. below e w))))
+        | yes e ↦ rw (eq-eqb u z e) (sym (ap not (ap (λ x. under p x (at p u)) (sym e) ∙ under-before u h q)))
         | no e ↦ rw (ne-eqb u z e)
       ]
-    where
-      below : u ≡ z → underUpTo p (length p) z (at p u) ≡ true → ⊥
-      below e w = omega (arith, t .rising u h q, ap (at s) e, under-larger z (at p u) (t .inside u h) (length p) w)
+
+  -- every vertex on the way up from u has u's root
+  pub under-same-root : (z u : ℕ) → u < n → under p z u ≡ true → rootOf p z ≡ rootOf p u
+  under-same-root z =
+      climb t (λ u. under p z u ≡ true → rootOf p z ≡ rootOf p u)
+      (λ u h q on. ap (rootOf p) (sym (eqb-true u z (sym (under-root p z u q) ∙ on))))
+      (λ u h q up on. elim (ℕ-discrete u z) [
+        | yes e ↦ ap (rootOf p) (sym e)
+        | no e ↦ up (sym (under-parent z u h q ∙ rw (ne-eqb u z e)) ∙ on) ∙ root-parent t u h
+      ])
 
   -- the vertices below a root are those of its tree
   pub under-top : (z : ℕ) → at p z ≡ z → (u : ℕ) → u < n → under p z u ≡ eqb (rootOf p u) z

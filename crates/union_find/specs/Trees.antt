@@ -2,7 +2,7 @@
 -- Assumes nothing.
 use Prim.Native.Nat.{ℕ, zero, suc, _+_, _≤_, _<_}
 use mathlib.Core.Path.{_≡_}
-use mathlib.Core.Logic.{_≢_, _⊎_}
+use mathlib.Core.Logic.{_≢_}
 use mathlib.Core.Bool.{Bool, cond, _||_}
 use mathlib.Core.List.{List}
 use lib.ListN.{length, getD, set}
@@ -61,10 +61,18 @@ pub record Alone (n : ℕ) (parent size : List ℕ) : Type 0 where
   pub own : (v : ℕ) → v < n → at parent v ≡ v
   pub one : (v : ℕ) → v < n → at size v ≡ 1
 
--- path compression: each vertex keeps its parent, or hangs under its own root at once
-pub record Compressed (parent parent′ : List ℕ) : Type 0 where
+-- u lies at z or below it: the way up from u, of at most k steps, passes z
+unfoldable pub underUpTo : List ℕ → ℕ → ℕ → ℕ → Bool
+underUpTo p zero z u = eqb u z
+underUpTo p (suc k) z u = eqb u z || underUpTo p k z (at p u)
+
+unfoldable pub under : List ℕ → ℕ → ℕ → Bool
+under p z u = underUpTo p (length p) z u
+
+-- Path compression from v: every vertex on the way up from v hangs under v's root, and every other vertex keeps its parent.
+pub record Compressed (parent : List ℕ) (v root : ℕ) (parent′ : List ℕ) : Type 0 where
   pub same-length : length parent′ ≡ length parent
-  pub each : (v : ℕ) → (at parent′ v ≡ at parent v) ⊎ (at parent′ v ≡ rootOf parent v)
+  pub each : (z : ℕ) → at parent′ z ≡ cond (under parent z v) root (at parent z)
 
 -- r, but y where r is x
 abbrev pub moved : ℕ → ℕ → ℕ → ℕ
@@ -85,11 +93,3 @@ hung p x y = set p x y
 -- y's size is then that of both trees
 abbrev pub grown : List ℕ → ℕ → ℕ → List ℕ
 grown s x y = set s y (at s x + at s y)
-
--- u lies at z or below it: the way up from u, of at most k steps, passes z
-unfoldable pub underUpTo : List ℕ → ℕ → ℕ → ℕ → Bool
-underUpTo p zero z u = eqb u z
-underUpTo p (suc k) z u = eqb u z || underUpTo p k z (at p u)
-
-unfoldable pub under : List ℕ → ℕ → ℕ → Bool
-under p z u = underUpTo p (length p) z u

@@ -39,10 +39,10 @@ pub fn root_of(parent: &[u16; VERTICES], v: Vertex) -> Vertex
     }
 }
 
-// Path compression: every vertex on the way up from v hangs under its root, which is v's. No vertex gets another root.
+// Path compression: every vertex on the way up from v hangs under v's root. All others keep their parents.
 pub fn compress(parent: &mut [u16; VERTICES], v: Vertex, root: Vertex)
     requires { ⌜ RootIs (now parent) (v .0) (root .0) ⌝ }
-    ensures { λ r. ⌜ Compressed (now (parent .entry)) (now (parent .exit)) ⌝ }
+    ensures { λ r. ⌜ Compressed (now (parent .entry)) (v .0) (root .0) (now (parent .exit)) ⌝ }
 {
     let mut w = v.0;
     while w != root.0 {
