@@ -34,7 +34,7 @@ use Rattle.decoder.specs.declared.book.Book.{Book}
 use Rattle.decoder.specs.Lent.{unmarked, Ends}
 use Rattle.decoder.specs.Gains.{Supports}
 use Rattle.decoder.specs.Runs.{Startable, Starts, Runnable, runOf, Runs}
-use Rattle.decoder.proofs.MarksAside.{grown-aside, smallest-aside}
+use Rattle.decoder.proofs.MarksAside.{clusters-aside, odd-aside, grown-aside, smallest-aside}
 
 module _ (n : ℕ) (ends marks syndrome loss support written : List ℕ) where
   abbrev board : Board
@@ -158,6 +158,16 @@ module _ (n : ℕ) (ends marks syndrome loss support written : List ℕ) where
 
           -- Peeling
 
+          -- growth has left no cluster odd, whatever the marks
+          even-clusters : (other : List ℕ) → length marks ≡ length other → NoOddCluster (boardOf n ends other) s′ syndrome
+          even-clusters other long =
+              record {
+                even = λ a h.
+                    sym (odd-aside n ends marks other long (clusters (boardOf n ends other) s′) (ones syndrome) a)
+                    ∙ ap (λ l. odd board l (ones syndrome) a) (sym (clusters-aside n ends marks other long s′) ∙ ap (clusters board) supports-are)
+                    ∙ key-even sheet (valid-in-range (valid .sheet .board)) none-odd .even a h;
+              }
+
           pub peelable : Peelable n ends s′ syndrome written
           peelable =
               record {
@@ -170,12 +180,7 @@ module _ (n : ℕ) (ends marks syndrome loss support written : List ℕ) where
                 };
                 syndrome-bytes = valid .sheet .syndrome .count;
                 correction-bytes = valid .correction-long ∙ sym grown-long;
-              }
-
-          even-clusters : NoOddCluster board s′ syndrome
-          even-clusters =
-              record {
-                even = λ a h. ap (λ x. odd board (clusters board x) (ones syndrome) a) supports-are ∙ key-even sheet (valid-in-range (valid .sheet .board)) none-odd .even a h;
+                even = λ other long. even-clusters other (sym grown-long ∙ sym long);
               }
 
           correction-is : correction board (full s′) (ones syndrome) ≡ corrected sheet
@@ -184,7 +189,7 @@ module _ (n : ℕ) (ends marks syndrome loss support written : List ℕ) where
 
           pub keyed : (e : ℕ) (k : List ℕ) → Peels n ends s′ syndrome e k → Promised (Key g e) s′ k
           keyed e k peels =
-              let w = peels .corrected marks (sym grown-long) even-clusters in
+              let w = peels .corrected marks (sym grown-long) in
               promised
               (record {
                 result =

@@ -29,11 +29,11 @@ module _ (n : ℕ) (ends marks marks′ : List ℕ) (same : length marks ≡ len
   unfolding labels
   labels-aside F = ap (labelsUpTo B F) same ∙ stage-aside F (length marks′)
 
-  clusters-aside : (s : List ℕ) → clusters B s ≡ clusters C s
+  pub clusters-aside : (s : List ℕ) → clusters B s ≡ clusters C s
   unfolding clusters
   clusters-aside s = labels-aside (full s)
 
-  odd-aside : (l : List ℕ) (S : Set) (a : ℕ) → odd B l S a ≡ odd C l S a
+  pub odd-aside : (l : List ℕ) (S : Set) (a : ℕ) → odd B l S a ≡ odd C l S a
   unfolding odd
   odd-aside l S a = refl
 

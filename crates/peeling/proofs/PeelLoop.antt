@@ -54,7 +54,7 @@ pub record PeelingFrom (vertices : ℕ) (ends support syndrome p : List ℕ) (wr
   pub long : length written ≡ length support
   pub small : count + e ≤ length support
   pub flippable : AllFlippable vertices p below
-  pub state : (marks : List ℕ) → length marks ≡ length support → NoOddCluster (boardOf vertices ends marks) support syndrome
+  pub state : (marks : List ℕ) → length marks ≡ length support
       → Peeling (boardOf vertices ends marks) (correctionOf vertices ends support syndrome marks) p e below written count
 
 -- What the calls before the loop ask
@@ -83,11 +83,11 @@ module _ {vertices : ℕ} {ends support syndrome written p links : List ℕ} (w 
         long = w .correction-bytes;
         small = omega arith;
         flippable = still-flippable (fresh-flippable k h) (all .same-length);
-        state = λ marks q none.
+        state = λ marks q.
             let B = boardOf vertices ends marks in
             rw (← q)
             (peeling-start B (correctionOf vertices ends support syndrome marks) (ones syndrome) p (replicate k false) below written
-            (has-syndrome vertices ends support syndrome marks (w .lent) q none) (clear-below k)
+            (has-syndrome vertices ends support syndrome marks (w .lent) q (w .even marks q)) (clear-below k)
             (rw (w .syndrome-bytes) at all));
       }
 
@@ -116,12 +116,12 @@ module _ {vertices : ℕ} {ends support syndrome start p links : List ℕ} (w : 
         long = length-set written (e - 1) c ∙ s .long;
         small = omega (arith, s .small, cuts .answer, bit-bound (isCut links below (e - 1)));
         flippable = still-flippable (s .flippable) (cuts .same-length);
-        state = λ marks q none.
+        state = λ marks q.
             let B = boardOf vertices ends marks in
             peeling-next B (in-range vertices ends support syndrome marks (w .lent) q) (w .lent .vertex-limit) (full support)
             (correctionOf vertices ends support syndrome marks) (correction-in-forest B (full support) (ones syndrome))
             (omega (arith, s .edge)) (s .long ∙ sym q) (t .each marks q (e - 1) (omega (arith, s .edge))) cuts
-            (subst (λ k. Peeling B (correctionOf vertices ends support syndrome marks) p k below written count) (omega arith) (s .state marks q none));
+            (subst (λ k. Peeling B (correctionOf vertices ends support syndrome marks) p k below written count) (omega arith) (s .state marks q));
       }
 
 -- The loop ends
@@ -129,4 +129,4 @@ module _ {vertices : ℕ} {ends support syndrome start p links : List ℕ} (w : 
 pub from-done : {vertices : ℕ} {ends support syndrome p written : List ℕ} {below : List Bool} {count : ℕ}
     → PeelingFrom vertices ends support syndrome p written below 0 count → Peels vertices ends support syndrome count written
 from-done s =
-    record { corrected = λ marks q none. peeling-done (s .state marks q none) (s .long ∙ sym q) }
+    record { corrected = λ marks q. peeling-done (s .state marks q) (s .long ∙ sym q) }

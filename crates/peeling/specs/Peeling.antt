@@ -42,15 +42,17 @@ pub record Cuts (ends parent links : List ℕ) (below : List Bool) (e r : ℕ) (
   pub each : (z : ℕ) → at parent z ≢ z
       → oddBelow below′ z ≡ oddBelow below z ⊕ (isCut links below e && endsUnder ends parent e z)
 
--- what is lent, with a syndrome byte for each vertex and a correction byte for each edge
+-- no cluster of the full edges is odd
+pub record NoOddCluster (B : Board) (support syndrome : List ℕ) : Type 0 where
+  pub even : (a : ℕ) → a < B .vertices → odd B (clusters B support) (ones syndrome) a ≡ false
+
+-- What is lent, with a syndrome byte for each vertex and a correction byte for each edge. No cluster of the full edges is odd, whatever
+-- the marks of the board: otherwise there is no correction.
 pub record Peelable (vertices : ℕ) (ends support syndrome correction : List ℕ) : Type 0 where
   pub lent : Lent vertices ends support
   pub syndrome-bytes : length syndrome ≡ vertices
   pub correction-bytes : length correction ≡ length support
-
--- no cluster of the full edges is odd
-pub record NoOddCluster (B : Board) (support syndrome : List ℕ) : Type 0 where
-  pub even : (a : ℕ) → a < B .vertices → odd B (clusters B support) (ones syndrome) a ≡ false
+  pub even : (marks : List ℕ) → length marks ≡ length support → NoOddCluster (boardOf vertices ends marks) support syndrome
 
 -- the correction on the board with these marks
 abbrev pub correctionOf : ℕ → List ℕ → List ℕ → List ℕ → List ℕ → Set
@@ -61,7 +63,7 @@ pub record Writes (B : Board) (D : Set) (r : ℕ) (written : List ℕ) : Type 0 
   pub count : r ≡ size B D
   pub bytes-are : written ≡ bytes (edges B) D
 
--- Where no cluster is odd, the correction is written, and its size returned. The marks of the board don't matter.
+-- The correction is written, and its size returned, whatever the marks of the board.
 pub record Peels (vertices : ℕ) (ends support syndrome : List ℕ) (r : ℕ) (written : List ℕ) : Type 0 where
-  pub corrected : (marks : List ℕ) → length marks ≡ length support → NoOddCluster (boardOf vertices ends marks) support syndrome
+  pub corrected : (marks : List ℕ) → length marks ≡ length support
       → Writes (boardOf vertices ends marks) (correctionOf vertices ends support syndrome marks) r written

@@ -36,8 +36,9 @@ fn cut(
     1
 }
 
-// The correction of the full edges for a syndrome: a byte for each edge, and how many edges it has. The edges of the forest are cut in
-// falling number: what hangs at the link of an edge is then one side of it in the forest of the edges up to it.
+// The correction of the full edges for a syndrome of which every cluster holds an even number: a byte for each edge, and how many edges it
+// has. The edges of the forest are cut in falling number: what hangs at the link of an edge is then one side of it in the forest of the
+// edges up to it.
 pub fn peel(
     vertices: usize,
     ends: &[u16],
