@@ -1,17 +1,17 @@
 // The boards of document 01's marked sheets: two ends for each edge, and a mark.
 
 // The ring of four vertices, whose last edge crosses line A.
-pub const RING: [u16; 8] = [0, 1, 1, 2, 2, 3, 3, 0];
+pub(crate) const RING: [u16; 8] = [0, 1, 1, 2, 2, 3, 3, 0];
 
-pub const RING_MARKS: [u8; 4] = [0, 0, 0, 1];
+pub(crate) const RING_MARKS: [u8; 4] = [0, 0, 0, 1];
 
 // P, the path of four vertices.
-pub const PATH: [u16; 6] = [0, 1, 1, 2, 2, 3];
+pub(crate) const PATH: [u16; 6] = [0, 1, 1, 2, 2, 3];
 
-pub const PATH_MARKS: [u8; 3] = [0, 0, 0];
+pub(crate) const PATH_MARKS: [u8; 3] = [0, 0, 0];
 
 // T, the torus of side 3.
-pub const TORUS: [u16; 36] = [
+pub(crate) const TORUS: [u16; 36] = [
     0,
     1,
     0,
@@ -50,9 +50,9 @@ pub const TORUS: [u16; 36] = [
     2,
 ];
 
-pub const TORUS_MARKS: [u8; 18] = [0, 0, 0, 0, 1, 0, 0, 0, 0, 0, 1, 0, 0, 2, 0, 2, 1, 2];
+pub(crate) const TORUS_MARKS: [u8; 18] = [0, 0, 0, 0, 1, 0, 0, 0, 0, 0, 1, 0, 0, 2, 0, 2, 1, 2];
 
 // Two vertices and two edges between them, one of which crosses line A.
-pub const TWO: [u16; 4] = [0, 1, 0, 1];
+pub(crate) const TWO: [u16; 4] = [0, 1, 0, 1];
 
-pub const TWO_MARKS: [u8; 2] = [0, 1];
+pub(crate) const TWO_MARKS: [u8; 2] = [0, 1];

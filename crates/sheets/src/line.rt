@@ -1,20 +1,20 @@
-// The parts of a line that a test program prints. Each only writes to standard output, of which no contract can speak.
+// The parts of a printed line. Each only writes to standard output, of which no contract can speak.
 use libc::STDOUT_FILENO;
 use model::refusal::Refusal;
 use model::refusal::number;
 use model::refusal::place;
 
-pub fn text(bytes: &[u8]) {
+pub(crate) fn text(bytes: &[u8]) {
     io::write_all(STDOUT_FILENO, bytes);
 }
 
 // The start of a line: what is decoded or judged.
-pub fn name(bytes: &[u8]) {
+pub(crate) fn name(bytes: &[u8]) {
     text(bytes);
     text(b": ");
 }
 
-pub fn count(n: usize) {
+pub(crate) fn count(n: usize) {
     io::print_decimal(STDOUT_FILENO, n as u64);
 }
 
@@ -23,7 +23,7 @@ fn digit(byte: u8) {
 }
 
 // Each byte as a number, one after the other.
-pub fn bytes(all: &[u8]) {
+pub(crate) fn bytes(all: &[u8]) {
     let mut i = 0;
     while i < all.len() {
         digit(all[i]);
@@ -32,7 +32,7 @@ pub fn bytes(all: &[u8]) {
 }
 
 // A refusal: its number and its place.
-pub fn refused(refusal: Refusal) {
+pub(crate) fn refused(refusal: Refusal) {
     text(b"number ");
     digit(number(refusal));
     text(b", place ");

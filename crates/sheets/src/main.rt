@@ -1,0 +1,10 @@
+// Decodes and judges the marked sheets and others, and prints a line for each.
+mod boards;
+mod decoding;
+mod line;
+mod verdicts;
+
+fn main() {
+    decoding::all();
+    verdicts::all();
+}
