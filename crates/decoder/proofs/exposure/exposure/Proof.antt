@@ -46,7 +46,10 @@ cast-exposed-2 c = search needs
 array-write-exposed-2 : tie.Need-array-write-exposed-2 Inv-loop μ-loop
 array-write-exposed-2 c =
     let t = c .before .before .before .before .before .before in
-    omega (arith, c .before .before .second-end .ensures, t .before .before .before .before .pre .second (t .before .loop .e) (t .loop-test .taken))
+    let lent = t .before .before .before .before .pre in
+    let first = lent .first (t .before .loop .e) (t .loop-test .taken) in
+    let second = lent .second (t .before .loop .e) (t .loop-test .taken) in
+    omega (arith, c .before .before .before .first-end .ensures, c .before .before .second-end .ensures)
 
 add-e : tie.Need-add-e Inv-loop μ-loop
 add-e c = search needs

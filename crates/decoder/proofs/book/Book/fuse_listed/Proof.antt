@@ -39,7 +39,8 @@ second-end-requires c κs =
 fuse-requires : tie.Need-fuse-requires Inv-loop μ-loop
 fuse-requires c κs =
     let at = c .before .before .before .before in
-    next-kept _ _ _ _ _ (at .loop .inv .1) _ (c .before .before .before .loop-test .taken) (at .before .before .pre) _ _ (c .before .first-end .ensures) (c .second-end .ensures)
+    let ends = next-kept _ _ _ _ _ (at .loop .inv .1) _ (c .before .before .before .loop-test .taken) (at .before .before .pre) _ _ (c .before .first-end .ensures) (c .second-end .ensures) in
+    search needs
 
 add-i : tie.Need-add-i Inv-loop μ-loop
 add-i c = search needs
