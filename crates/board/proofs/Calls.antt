@@ -9,7 +9,7 @@ use native.Mathlib.Omega.{arith}
 use lib.ListN.{length}
 use Rattle.model.specs.Sums.{orElse}
 use Rattle.model.specs.Board.{Board, Sheet, Valid, ValidBytes, ValidSheet, edges}
-use Rattle.model.specs.Refusals.{Test, firstFailure, edgesOf, sized, handedTest, decodeRefusal, verdictRefusal, distanceRefusal}
+use Rattle.model.specs.Refusals.{Test, tested, firstFailure, edgesOf, sized, handedRule, decodeRefusal, verdictRefusal, distanceRefusal}
 use Rattle.model.proofs.Xor.{and-left, and-right, and-both}
 use Rattle.board.specs.Rules.{countTests, edgeTests, byteTests, boardRefusal, sheetRefusal}
 use Rattle.board.proofs.Rows.{each-passes, row-passes, first-append, neither-fails}
@@ -78,7 +78,7 @@ pub record ForVerdict (X : Sheet) (handed : List ℕ) : Type 0 where
 
 pub verdict-tests :
     (X : Sheet) (handed : List ℕ) →
-    verdictRefusal X handed ≡ orElse (sheetRefusal X (sized handed (edgesOf (X .board .ends)))) (firstFailure (handedTest handed ∷ []))
+    verdictRefusal X handed ≡ orElse (sheetRefusal X (sized handed (edgesOf (X .board .ends)))) (firstFailure (tested (handedRule handed) ∷ []))
 unfolding verdictRefusal sheetRefusal
 verdict-tests X handed =
     let B = X .board in
@@ -86,7 +86,7 @@ verdict-tests X handed =
     let fit = sized (B .marks) m && sized (X .syndrome) (B .vertices) && sized (X .loss) m && sized handed m in
     first-append
     (countTests (B .vertices) (B .ends) fit ++ edgeTests B ++ byteTests (X .syndrome) (X .loss))
-    (handedTest handed ∷ [])
+    (tested (handedRule handed) ∷ [])
 
 -- what the sheet's check allows the last test to index
 pub sheet-allows : (X : Sheet) (handed : List ℕ) → sheetRefusal X (sized handed (edgesOf (X .board .ends))) ≡ none → length handed ≤ 4096
@@ -98,7 +98,7 @@ pub verdict-passes : (X : Sheet) (handed : List ℕ) → verdictRefusal X handed
 verdict-passes X handed p =
     let t = neither-fails (sheetRefusal X (sized handed (edgesOf (X .board .ends)))) _ (sym (verdict-tests X handed) ∙ p) in
     let w = sheet-passes X (sized handed (edgesOf (X .board .ends))) (t .0) in
-    let e = each-passes (handedTest handed ∷ []) (t .1) in
+    let e = each-passes (tested (handedRule handed) ∷ []) (t .1) in
     record {
       sheet = w .sheet;
       bytes = bytes-say _ handed _ (long-enough (X .board) handed (w .sheet .board) (w .fit)) (e .0);
@@ -109,7 +109,7 @@ passes-verdict X handed w =
     let long = enough-long (X .board) handed (w .sheet .board) (w .bytes .count) in
     verdict-tests X handed
     ∙ rw (passes-sheet X _ (record { sheet = w .sheet; fit = long }))
-    (row-passes (handedTest handed ∷ []) (say-bytes _ handed _ (w .bytes), tt))
+    (row-passes (tested (handedRule handed) ∷ []) (say-bytes _ handed _ (w .bytes), tt))
 
 -- The distance: a valid board and a buffer with a byte for each edge.
 pub record ForDistance (B : Board) (shown : List ℕ) : Type 0 where

@@ -2,12 +2,12 @@
 -- Assumes nothing.
 use Prim.Native.Nat.{ℕ, _+_, _*_}
 use mathlib.Core.Bool.{Bool, _&&_, _||_}
-use mathlib.Core.List.{List, [], _∷_, _++_}
+use mathlib.Core.List.{List, [], _∷_, _++_, map}
 use lib.ListN.{getD}
 use lib.Dec.{eqb, leb, ltb}
 use Rattle.model.specs.Sums.{Set}
 use Rattle.model.specs.Board.{Board, Sheet}
-use Rattle.model.specs.Refusals.{Test, firstFailure, vertexCountTest, endCountTest, lengthTest, endRangeTest, equalEndsTest, markTest, syndromeTest, lossTest, edgesOf, sized}
+use Rattle.model.specs.Refusals.{Test, tested, firstFailure, vertexCountRule, endCountRule, lengthRule, endRangeRule, equalEndsRule, markRule, syndromeRule, lossRule, edgesOf, sized}
 
 -- 4: the edges that have an end at or above the vertex count
 abbrev pub outside : ℕ → List ℕ → Set
@@ -23,15 +23,15 @@ above limit bytes i = ltb limit (getD bytes i 0)
 
 -- the tests 1 to 3, where `fit` says that every other lent buffer has its length
 abbrev pub countTests : ℕ → List ℕ → Bool → List Test
-countTests vertices ends fit = vertexCountTest vertices ∷ endCountTest ends ∷ lengthTest fit ∷ []
+countTests vertices ends fit = map tested (vertexCountRule vertices ∷ endCountRule ends ∷ lengthRule fit ∷ [])
 
 -- the tests 4 to 6
 abbrev pub edgeTests : Board → List Test
-edgeTests B = endRangeTest B ∷ equalEndsTest B ∷ markTest B ∷ []
+edgeTests B = map tested (endRangeRule B ∷ equalEndsRule B ∷ markRule B ∷ [])
 
 -- the tests 7 and 8
 abbrev pub byteTests : List ℕ → List ℕ → List Test
-byteTests syndrome loss = syndromeTest syndrome ∷ lossTest loss ∷ []
+byteTests syndrome loss = map tested (syndromeRule syndrome ∷ lossRule loss ∷ [])
 
 -- the first failure of the tests 1 to 6 on a board, where `others` says that each buffer lent beside it has its length
 unfoldable pub boardRefusal : Board → Bool → Test

@@ -1,8 +1,8 @@
--- Document 01, "Numbers and places": the number and the place of each refusal, and the tests of each call in their order.
+-- Document 01, "Numbers and places": the number and the place of each refusal, and the rules of each call in the order of their tests.
 -- Assumes nothing.
 use Prim.Native.Nat.{ℕ, _*_, _/_, _%_}
 use mathlib.Core.Bool.{Bool, cond, _&&_, _||_}
-use mathlib.Core.List.{List, [], _∷_}
+use mathlib.Core.List.{List, [], _∷_, map}
 use mathlib.Core.Option.{Option, none, some}
 use lib.ListN.{length, getD}
 use lib.Dec.{eqb, leb, ltb}
@@ -46,6 +46,11 @@ placeOf TextLength = 0
 placeOf (MalformedLine line) = line
 placeOf TextBuffer = 0
 
+-- A rule is kept or not as a whole, or broken at some of n places; each way to break it has its refusal.
+pub data Rule : Type 0 where
+  whole : Bool → Refusal → Rule
+  each : ℕ → Set → (ℕ → Refusal) → Rule
+
 -- A test passes (none) or fails with its refusal.
 abbrev pub Test : Type 0
 Test = Option Refusal
@@ -62,53 +67,62 @@ refusedAt (some i) at = some (at i)
 abbrev pub firstPlace : ℕ → Set → (ℕ → Refusal) → Test
 firstPlace n broken at = refusedAt (firstUpTo n broken) at
 
--- The smallest number that applies wins: the tests stand in the order of their numbers, and the first that fails decides.
+-- the test of a rule: where several places break it, the first is refused
+abbrev pub tested : Rule → Test
+tested (whole kept r) = unless kept r
+tested (each n broken at) = firstPlace n broken at
+
+-- The rules of a call are tested in the order of its list, and the first test that fails decides. Where the list has the rules in the order
+-- of their numbers, the smallest number that applies wins, then the smallest place.
 abbrev pub firstFailure : List Test → Test
 firstFailure [] = none
 firstFailure (some n ∷ tests) = some n
 firstFailure (none ∷ tests) = firstFailure tests
 
+abbrev pub refusalOf : List Rule → Test
+refusalOf rules = firstFailure (map tested rules)
+
 -- 1: vertex count 0 or above 1,024
-abbrev pub vertexCountTest : ℕ → Test
-vertexCountTest n = unless (leb 1 n && leb n vertexLimit) VertexCount
+abbrev pub vertexCountRule : ℕ → Rule
+vertexCountRule n = whole (leb 1 n && leb n vertexLimit) VertexCount
 
 -- 2: odd count of ends, or above 8,192
-abbrev pub endCountTest : List ℕ → Test
-endCountTest ends = unless (eqb (length ends % 2) 0 && leb (length ends) (2 * edgeLimit)) EndCount
+abbrev pub endCountRule : List ℕ → Rule
+endCountRule ends = whole (eqb (length ends % 2) 0 && leb (length ends) (2 * edgeLimit)) EndCount
 
 -- 3: another lent buffer has the wrong length
 abbrev pub sized : {A : Type 0} → List A → ℕ → Bool
 sized l n = eqb (length l) n
 
-abbrev pub lengthTest : Bool → Test
-lengthTest ok = unless ok BufferLength
+abbrev pub lengthRule : Bool → Rule
+lengthRule ok = whole ok BufferLength
 
 -- 4: an end at or above the vertex count
-abbrev pub endRangeTest : Board → Test
-endRangeTest B =
-    firstPlace (edges B) (λ e. leb (B .vertices) (firstEnd B e) || leb (B .vertices) (secondEnd B e))
+abbrev pub endRangeRule : Board → Rule
+endRangeRule B =
+    each (edges B) (λ e. leb (B .vertices) (firstEnd B e) || leb (B .vertices) (secondEnd B e))
     (λ e. EndRange (record { 0 = e }))
 
 -- 5: equal ends
-abbrev pub equalEndsTest : Board → Test
-equalEndsTest B = firstPlace (edges B) (λ e. eqb (firstEnd B e) (secondEnd B e)) (λ e. EqualEnds (record { 0 = e }))
+abbrev pub equalEndsRule : Board → Rule
+equalEndsRule B = each (edges B) (λ e. eqb (firstEnd B e) (secondEnd B e)) (λ e. EqualEnds (record { 0 = e }))
 
 -- 6: mark above 3
-abbrev pub markTest : Board → Test
-markTest B = firstPlace (edges B) (λ e. ltb 3 (mark B e)) (λ e. MarkRange (record { 0 = e }))
+abbrev pub markRule : Board → Rule
+markRule B = each (edges B) (λ e. ltb 3 (mark B e)) (λ e. MarkRange (record { 0 = e }))
 
 -- 7, 8, 9: a byte above 1
 abbrev pub aboveOne : List ℕ → Set
 aboveOne l i = ltb 1 (getD l i 0)
 
-abbrev pub syndromeTest : List ℕ → Test
-syndromeTest l = firstPlace (length l) (aboveOne l) (λ v. SyndromeByte (record { 0 = v }))
+abbrev pub syndromeRule : List ℕ → Rule
+syndromeRule l = each (length l) (aboveOne l) (λ v. SyndromeByte (record { 0 = v }))
 
-abbrev pub lossTest : List ℕ → Test
-lossTest l = firstPlace (length l) (aboveOne l) (λ e. LossByte (record { 0 = e }))
+abbrev pub lossRule : List ℕ → Rule
+lossRule l = each (length l) (aboveOne l) (λ e. LossByte (record { 0 = e }))
 
-abbrev pub handedTest : List ℕ → Test
-handedTest l = firstPlace (length l) (aboveOne l) (λ e. HandedByte (record { 0 = e }))
+abbrev pub handedRule : List ℕ → Rule
+handedRule l = each (length l) (aboveOne l) (λ e. HandedByte (record { 0 = e }))
 
 -- 10: some part of the whole board is odd; the place is the smallest vertex of all odd parts
 abbrev pub noneAt : ℕ → Refusal
@@ -118,65 +132,77 @@ abbrev pub oddPartTest : Sheet → Test
 oddPartTest X = refusedAt (smallestOdd (X .board) (ones (X .syndrome))) noneAt
 
 -- 11: torus side outside 2 to 32
-abbrev pub sideTest : ℕ → Test
-sideTest L = unless (leb 2 L && leb L 32) (TorusSide L)
+abbrev pub sideRule : ℕ → Rule
+sideRule L = whole (leb 2 L && leb L 32) (TorusSide L)
 
 -- how many edges the ends stand for: what the other lengths are held to
 abbrev pub edgesOf : List ℕ → ℕ
 edgesOf ends = length ends / 2
 
--- Each call tests what it is lent. Decoding and the verdict test for number 10 as well, once all tests of their lists are passed: it asks
+-- Each call tests what it is lent. Decoding and the verdict test for number 10 as well, once all rules of their lists are kept: it asks
 -- for the parts of a board that keeps the rules. Decoding is lent a sheet and two buffers to fill.
-unfoldable pub decodeRefusal : Sheet → List ℕ → List ℕ → Test
-decodeRefusal X support correction =
+unfoldable pub decodeRules : Sheet → List ℕ → List ℕ → List Rule
+decodeRules X support correction =
     let B = X .board in
     let m = edgesOf (B .ends) in
-    firstFailure
-    (vertexCountTest (B .vertices)
-    ∷ endCountTest (B .ends)
-    ∷ lengthTest
+    vertexCountRule (B .vertices)
+    ∷ endCountRule (B .ends)
+    ∷ lengthRule
     (sized (B .marks) m && sized (X .syndrome) (B .vertices) && sized (X .loss) m && sized support m && sized correction m)
-    ∷ endRangeTest B
-    ∷ equalEndsTest B
-    ∷ markTest B
-    ∷ syndromeTest (X .syndrome)
-    ∷ lossTest (X .loss)
-    ∷ [])
+    ∷ endRangeRule B
+    ∷ equalEndsRule B
+    ∷ markRule B
+    ∷ syndromeRule (X .syndrome)
+    ∷ lossRule (X .loss)
+    ∷ []
+
+unfoldable pub decodeRefusal : Sheet → List ℕ → List ℕ → Test
+unfolding decodeRules
+decodeRefusal X support correction = refusalOf (decodeRules X support correction)
 
 -- The verdict is lent a sheet and a handed-in set.
-unfoldable pub verdictRefusal : Sheet → List ℕ → Test
-verdictRefusal X handed =
+unfoldable pub verdictRules : Sheet → List ℕ → List Rule
+verdictRules X handed =
     let B = X .board in
     let m = edgesOf (B .ends) in
-    firstFailure
-    (vertexCountTest (B .vertices)
-    ∷ endCountTest (B .ends)
-    ∷ lengthTest (sized (B .marks) m && sized (X .syndrome) (B .vertices) && sized (X .loss) m && sized handed m)
-    ∷ endRangeTest B
-    ∷ equalEndsTest B
-    ∷ markTest B
-    ∷ syndromeTest (X .syndrome)
-    ∷ lossTest (X .loss)
-    ∷ handedTest handed
-    ∷ [])
+    vertexCountRule (B .vertices)
+    ∷ endCountRule (B .ends)
+    ∷ lengthRule (sized (B .marks) m && sized (X .syndrome) (B .vertices) && sized (X .loss) m && sized handed m)
+    ∷ endRangeRule B
+    ∷ equalEndsRule B
+    ∷ markRule B
+    ∷ syndromeRule (X .syndrome)
+    ∷ lossRule (X .loss)
+    ∷ handedRule handed
+    ∷ []
+
+unfoldable pub verdictRefusal : Sheet → List ℕ → Test
+unfolding verdictRules
+verdictRefusal X handed = refusalOf (verdictRules X handed)
 
 -- The distance is lent a board and a buffer for the loop shown.
-unfoldable pub distanceRefusal : Board → List ℕ → Test
-distanceRefusal B shown =
+unfoldable pub distanceRules : Board → List ℕ → List Rule
+distanceRules B shown =
     let m = edgesOf (B .ends) in
-    firstFailure
-    (vertexCountTest (B .vertices)
-    ∷ endCountTest (B .ends)
-    ∷ lengthTest (sized (B .marks) m && sized shown m)
-    ∷ endRangeTest B
-    ∷ equalEndsTest B
-    ∷ markTest B
-    ∷ [])
+    vertexCountRule (B .vertices)
+    ∷ endCountRule (B .ends)
+    ∷ lengthRule (sized (B .marks) m && sized shown m)
+    ∷ endRangeRule B
+    ∷ equalEndsRule B
+    ∷ markRule B
+    ∷ []
+
+unfoldable pub distanceRefusal : Board → List ℕ → Test
+unfolding distanceRules
+distanceRefusal B shown = refusalOf (distanceRules B shown)
 
 -- The torus builder is lent buffers for 4L² ends and 2L² marks; these lengths are tested only once the side is in range.
+unfoldable pub torusRules : ℕ → List ℕ → List ℕ → List Rule
+torusRules L ends marks =
+    sideRule L
+    ∷ lengthRule (sized ends (4 * (L * L)) && sized marks (2 * (L * L)))
+    ∷ []
+
 unfoldable pub torusRefusal : ℕ → List ℕ → List ℕ → Test
-torusRefusal L ends marks =
-    firstFailure
-    (sideTest L
-    ∷ lengthTest (sized ends (4 * (L * L)) && sized marks (2 * (L * L)))
-    ∷ [])
+unfolding torusRules
+torusRefusal L ends marks = refusalOf (torusRules L ends marks)

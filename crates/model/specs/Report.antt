@@ -10,10 +10,10 @@ use Rattle.model.specs.Sums.{members}
 use Rattle.model.specs.Board.{Sheet, edges}
 use Rattle.model.specs.Decoding.{growths, corrected}
 use Rattle.model.specs.Distance.{fewest}
-use Rattle.model.specs.Refusals.{numberOf, placeOf, oddPartTest}
+use Rattle.model.specs.Refusals.{numberOf, placeOf, tested, oddPartTest}
 use Rattle.model.specs.Outcomes.{answer}
 use Rattle.model.specs.Text.{newline, tab, fieldsOf, Read, complete, refused, readText}
-use Rattle.model.specs.TextOutcomes.{textTest, over}
+use Rattle.model.specs.TextOutcomes.{textRule, over}
 
 -- the letters of its lines, as bytes, and the one that stands for no distance
 abbrev pub letterG : ℕ
@@ -66,7 +66,7 @@ readReport (refused n) = refusalLine n
 
 -- The report of a text: number 12 for one that is too long, number 13 for one that doesn't read, or the report of its sheet.
 unfoldable pub reportOf : List ℕ → List ℕ
-reportOf text = answer (textTest text) refusalLine (readReport (readText text))
+reportOf text = answer (tested (textRule text)) refusalLine (readReport (readText text))
 
 -- These bytes stand in front in the buffer, r is how many they are, and no byte after them is touched.
 pub record InFront (bytes out : List ℕ) (r : ℕ) (out′ : List ℕ) : Type 0 where

@@ -12,7 +12,7 @@ use Rattle.model.specs.declared.answers.Reading.the-variants as reading
 use Rattle.model.specs.declared.answers.Written.{Written}
 use Rattle.model.specs.declared.answers.Written.the-variants as written
 use Rattle.model.specs.Board.{Sheet, edges, vertexLimit, edgeLimit}
-use Rattle.model.specs.Refusals.{Test, unless, firstFailure, sized, edgesOf, vertexCountTest, endCountTest, lengthTest, endRangeTest, equalEndsTest, markTest, syndromeTest, lossTest}
+use Rattle.model.specs.Refusals.{Rule, whole, Test, refusalOf, sized, edgesOf, vertexCountRule, endCountRule, lengthRule, endRangeRule, equalEndsRule, markRule, syndromeRule, lossRule}
 use Rattle.model.specs.Outcomes.{answer}
 use Rattle.model.specs.Text.{Read, complete, refused, textOf, readText}
 
@@ -20,21 +20,28 @@ use Rattle.model.specs.Text.{Read, complete, refused, textOf, readText}
 abbrev pub textLimit : ℕ
 textLimit = 65536
 
-abbrev pub textTest : List ℕ → Test
-textTest text = unless (leb (length text) textLimit) TextLength
+abbrev pub textRule : List ℕ → Rule
+textRule text = whole (leb (length text) textLimit) TextLength
+
+-- 14: writer's buffer shorter than the text
+abbrev pub textBufferRule : List ℕ → List ℕ → Rule
+textBufferRule text buffer = whole (leb (length text) (length buffer)) TextBuffer
 
 -- the entries put in front, and those past them unchanged
 abbrev pub over : List ℕ → List ℕ → List ℕ
 over new old = new ++ drop (length new) old
 
 -- The reader fills lent buffers of exactly 8,192 ends, 4,096 marks, 1,024 syndrome bytes and 4,096 loss bytes; any other length is 3.
-unfoldable pub readRefusal : List ℕ → List ℕ → List ℕ → List ℕ → List ℕ → Test
-readRefusal text ends marks syndrome loss =
-    firstFailure
-    (lengthTest
+unfoldable pub readRules : List ℕ → List ℕ → List ℕ → List ℕ → List ℕ → List Rule
+readRules text ends marks syndrome loss =
+    lengthRule
     (sized ends (2 * edgeLimit) && sized marks edgeLimit && sized syndrome vertexLimit && sized loss edgeLimit)
-    ∷ textTest text
-    ∷ [])
+    ∷ textRule text
+    ∷ []
+
+unfoldable pub readRefusal : List ℕ → List ℕ → List ℕ → List ℕ → List ℕ → Test
+unfolding readRules
+readRefusal text ends marks syndrome loss = refusalOf (readRules text ends marks syndrome loss)
 
 -- then the lines are read, the first malformed one being 13
 unfoldable pub readOutcome : List ℕ → List ℕ → List ℕ → List ℕ → List ℕ → Read
@@ -57,23 +64,26 @@ pub record Reads (text ends marks syndrome loss : List ℕ) (r : Reading) (ends�
   pub syndrome-filled : syndrome′ ≡ filled (readOutcome text ends marks syndrome loss) (λ sheet. sheet .syndrome) syndrome
   pub loss-filled : loss′ ≡ filled (readOutcome text ends marks syndrome loss) (λ sheet. sheet .loss) loss
 
--- The writer is lent a sheet and a buffer. 14: that buffer is shorter than the text.
-unfoldable pub writeRefusal : Sheet → List ℕ → Test
-writeRefusal sheet buffer =
+-- The writer is lent a sheet and a buffer.
+unfoldable pub writeRules : Sheet → List ℕ → List Rule
+writeRules sheet buffer =
     let B = sheet .board in
     let m = edgesOf (B .ends) in
-    firstFailure
-    (vertexCountTest (B .vertices)
-    ∷ endCountTest (B .ends)
-    ∷ lengthTest (sized (B .marks) m && sized (sheet .syndrome) (B .vertices) && sized (sheet .loss) m)
-    ∷ endRangeTest B
-    ∷ equalEndsTest B
-    ∷ markTest B
-    ∷ syndromeTest (sheet .syndrome)
-    ∷ lossTest (sheet .loss)
-    ∷ textTest (textOf sheet)
-    ∷ unless (leb (length (textOf sheet)) (length buffer)) TextBuffer
-    ∷ [])
+    vertexCountRule (B .vertices)
+    ∷ endCountRule (B .ends)
+    ∷ lengthRule (sized (B .marks) m && sized (sheet .syndrome) (B .vertices) && sized (sheet .loss) m)
+    ∷ endRangeRule B
+    ∷ equalEndsRule B
+    ∷ markRule B
+    ∷ syndromeRule (sheet .syndrome)
+    ∷ lossRule (sheet .loss)
+    ∷ textRule (textOf sheet)
+    ∷ textBufferRule (textOf sheet) buffer
+    ∷ []
+
+unfoldable pub writeRefusal : Sheet → List ℕ → Test
+unfolding writeRules
+writeRefusal sheet buffer = refusalOf (writeRules sheet buffer)
 
 -- It returns a byte count ..
 unfoldable pub writeAnswer : Sheet → List ℕ → Written

@@ -4,7 +4,7 @@
 use Prim.Native.Nat.{ℕ, _*_, _≤_}
 use mathlib.Core.Path.{_≡_, refl, sym, ap, ap₂, subst, _∙_}
 use mathlib.Core.Bool.{true}
-use mathlib.Core.List.{List, [], _∷_}
+use mathlib.Core.List.{List, [], _∷_, map}
 use mathlib.Core.Option.{none, some}
 use borrow.Author.Tests.{leb-true, le-leb}
 use lib.ListN.{length, take, drop}
@@ -16,10 +16,10 @@ use Rattle.model.specs.declared.answers.Reading.the-variants as reading
 use Rattle.model.specs.declared.answers.Written.{Written}
 use Rattle.model.specs.declared.answers.Written.the-variants as written
 use Rattle.model.specs.Board.{boardOf, edges, Sheet, sheetOf, ValidSheet, vertexLimit, edgeLimit}
-use Rattle.model.specs.Refusals.{Test, firstFailure, lengthTest}
+use Rattle.model.specs.Refusals.{Test, tested, firstFailure, lengthRule}
 use Rattle.model.specs.Outcomes.{answer}
 use Rattle.model.specs.Text.{Read, complete, refused, textOf, readText}
-use Rattle.model.specs.TextOutcomes.{textLimit, textTest, over, readRefusal, readOutcome, counts, filled, Reads, writeRefusal, writeAnswer, writtenOr, Writes}
+use Rattle.model.specs.TextOutcomes.{textLimit, textRule, over, readRefusal, readOutcome, counts, filled, Reads, writeRefusal, writeAnswer, writtenOr, Writes}
 use Rattle.model.proofs.Contradiction.{zero-one}
 use Rattle.theory.proofs.RoundTrip.{read-written, written-read}
 use Rattle.board.specs.Rules.{sheetRefusal}
@@ -186,7 +186,7 @@ counts-or-refused p = zero-one (cc)
 read-within : (text ends marks syndrome loss : List ℕ) → readRefusal text ends marks syndrome loss ≡ none → length text ≤ textLimit
 unfolding readRefusal
 read-within text ends marks syndrome loss p =
-    let e = each-passes (lengthTest (fit ends marks syndrome loss) ∷ textTest text ∷ []) p in
+    let e = each-passes (map tested (lengthRule (fit ends marks syndrome loss) ∷ textRule text ∷ [])) p in
     leb-true _ _ (unless-passes _ TextLength (e .1 .0))
 
 read-sheet : (text ends marks syndrome loss : List ℕ) (n m : ℕ)

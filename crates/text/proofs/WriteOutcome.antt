@@ -2,13 +2,12 @@
 use Prim.Native.Nat.{ℕ, _+_, _≤_, _<_}
 use mathlib.Core.Path.{_≡_, refl, sym, ap, _∙_}
 use mathlib.Core.Bool.{true}
-use mathlib.Core.List.{List, [], _∷_, _++_}
+use mathlib.Core.List.{List, [], _∷_, _++_, map}
 use mathlib.Core.Option.{none, some}
 use native.Mathlib.Nat.{zero-add}
 use native.Mathlib.Omega.{arith}
 use borrow.Author.Tests.{le-leb, lt-leb}
 use lib.ListN.{length, take, drop}
-use lib.Dec.{leb}
 use lib.Seq.{sets-eq, take-at}
 use Rattle.board.specs.Rules.{sheetRefusal}
 use Rattle.board.proofs.Validity.{sheet-passes}
@@ -18,9 +17,9 @@ use Rattle.model.specs.declared.refusal.Refusal.the-variants.{TextLength, TextB
 use Rattle.model.specs.declared.answers.Written.the-variants as written
 use Rattle.model.specs.Sums.{orElse}
 use Rattle.model.specs.Board.{Sheet, ValidSheet}
-use Rattle.model.specs.Refusals.{Test, unless, firstFailure}
+use Rattle.model.specs.Refusals.{Test, tested, firstFailure}
 use Rattle.model.specs.Text.{textOf}
-use Rattle.model.specs.TextOutcomes.{textLimit, textTest, writeRefusal, writeAnswer, Writes}
+use Rattle.model.specs.TextOutcomes.{textLimit, textRule, textBufferRule, writeRefusal, writeAnswer, Writes}
 use Rattle.text.specs.Printing.{Puts, sheetBytes}
 use Rattle.text.proofs.PrintLaws.{text-bytes}
 use Rattle.text.proofs.CopyLaws.{copied}
@@ -28,7 +27,7 @@ use Rattle.text.proofs.CopyLaws.{copied}
 -- the tests 1 to 8 of the sheet, then those of the text
 module _ (X : Sheet) (buffer : List ℕ) where
   abbrev pub textTests : List Test
-  textTests = textTest (textOf X) ∷ unless (leb (length (textOf X)) (length buffer)) TextBuffer ∷ []
+  textTests = map tested (textRule (textOf X) ∷ textBufferRule (textOf X) buffer ∷ [])
 
   pub write-tests : writeRefusal X buffer ≡ orElse (sheetRefusal X true) (firstFailure textTests)
   unfolding writeRefusal
