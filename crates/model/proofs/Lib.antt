@@ -3,3 +3,4 @@ pub mod Xor
 pub mod Bits
 pub mod SumLaws
 pub mod ListLaws
+pub mod RuleNumbers

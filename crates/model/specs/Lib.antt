@@ -12,6 +12,7 @@ pub mod Verdict
 pub mod Distance
 pub mod Torus
 pub mod Refusals
+pub mod Precedence
 pub mod Outcomes
 pub mod MarkedSheets
 pub mod Text

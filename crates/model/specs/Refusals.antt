@@ -73,7 +73,7 @@ tested (whole kept r) = unless kept r
 tested (each n broken at) = firstPlace n broken at
 
 -- The rules of a call are tested in the order of its list, and the first test that fails decides. Where the list has the rules in the order
--- of their numbers, the smallest number that applies wins, then the smallest place.
+-- of their numbers, the smallest number that applies wins, then the smallest place (`Precedence`).
 abbrev pub firstFailure : List Test → Test
 firstFailure [] = none
 firstFailure (some n ∷ tests) = some n

@@ -34,3 +34,6 @@ pub mod TextReading
 pub mod ReadStages
 pub mod WrittenLines
 pub mod RoundTrip
+pub mod Precedence
+pub mod SmallestNumber
+pub mod CallRefusals

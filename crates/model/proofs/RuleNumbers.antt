@@ -1,0 +1,42 @@
+-- The numbers of each call's rules, in the order in which they are tested. They rise in every call but the torus builder, which tests the
+-- side before the lengths. Assumes nothing.
+use Prim.Native.Nat.{ℕ}
+use mathlib.Core.Path.{_≡_, refl}
+use mathlib.Core.List.{List, [], _∷_}
+use Rattle.model.specs.Board.{Board, Sheet}
+use Rattle.model.specs.Refusals.{decodeRules, verdictRules, distanceRules, torusRules}
+use Rattle.model.specs.TextOutcomes.{readRules, writeRules}
+use Rattle.model.specs.Precedence.{Numbered}
+
+-- a rule with places: at each place the refusal computes to the rule's number and to that place
+its-place : (k i : ℕ) → (k ≡ k) × (i ≡ i)
+its-place k i = (refl, refl)
+
+pub distance-numbers : (B : Board) (shown : List ℕ) → Numbered (1 ∷ 2 ∷ 3 ∷ 4 ∷ 5 ∷ 6 ∷ []) (distanceRules B shown)
+unfolding distanceRules
+distance-numbers B shown = record { in-turn = (refl, (refl, (refl, (its-place 4, (its-place 5, (its-place 6, tt)))))) }
+
+pub decode-numbers : (X : Sheet) (support correction : List ℕ)
+    → Numbered (1 ∷ 2 ∷ 3 ∷ 4 ∷ 5 ∷ 6 ∷ 7 ∷ 8 ∷ []) (decodeRules X support correction)
+unfolding decodeRules
+decode-numbers X support correction =
+    record { in-turn = (refl, (refl, (refl, (its-place 4, (its-place 5, (its-place 6, (its-place 7, (its-place 8, tt)))))))) }
+
+pub verdict-numbers : (X : Sheet) (handed : List ℕ) → Numbered (1 ∷ 2 ∷ 3 ∷ 4 ∷ 5 ∷ 6 ∷ 7 ∷ 8 ∷ 9 ∷ []) (verdictRules X handed)
+unfolding verdictRules
+verdict-numbers X handed =
+    record { in-turn = (refl, (refl, (refl, (its-place 4, (its-place 5, (its-place 6, (its-place 7, (its-place 8, (its-place 9, tt))))))))) }
+
+pub torus-numbers : (L : ℕ) (ends marks : List ℕ) → Numbered (11 ∷ 3 ∷ []) (torusRules L ends marks)
+unfolding torusRules
+torus-numbers L ends marks = record { in-turn = (refl, (refl, tt)) }
+
+pub read-numbers : (text ends marks syndrome loss : List ℕ) → Numbered (3 ∷ 12 ∷ []) (readRules text ends marks syndrome loss)
+unfolding readRules
+read-numbers text ends marks syndrome loss = record { in-turn = (refl, (refl, tt)) }
+
+pub write-numbers : (X : Sheet) (buffer : List ℕ)
+    → Numbered (1 ∷ 2 ∷ 3 ∷ 4 ∷ 5 ∷ 6 ∷ 7 ∷ 8 ∷ 12 ∷ 14 ∷ []) (writeRules X buffer)
+unfolding writeRules
+write-numbers X buffer =
+    record { in-turn = (refl, (refl, (refl, (its-place 4, (its-place 5, (its-place 6, (its-place 7, (its-place 8, (refl, (refl, tt)))))))))) }

@@ -1,0 +1,121 @@
+-- Document 01, "Numbers and places", of each call: "The smallest number that applies wins, then the smallest place." The numbers of the
+-- rules rise in all calls but the torus builder, which tests its lengths "only once the side is in range". Outside the lists stand 10, which
+-- decoding and the verdict give only where nothing of their lists applies, and 13, which the reader gives alike. Assumes nothing.
+use Prim.Native.Nat.{ℕ, _*_, _≤_}
+use mathlib.Core.Path.{_≡_, refl, ap, _∙_}
+use mathlib.Core.Bool.{_&&_}
+use mathlib.Core.Logic.{_↔_, _≢_}
+use mathlib.Core.List.{List, [], _∷_}
+use mathlib.Core.Option.{none, some}
+use native.Mathlib.Omega.{arith}
+use borrow.Author.Tests.{leb-true}
+use lib.ListN.{length}
+use lib.Dec.{leb}
+use Rattle.model.specs.declared.refusal.Refusal.{Refusal}
+use Rattle.model.specs.declared.refusal.Refusal.the-variants.{BufferLength, TorusSide}
+use Rattle.model.specs.declared.answers.Decoded.the-variants as decoded
+use Rattle.model.specs.declared.answers.Verdict.the-variants as verdict
+use Rattle.model.specs.declared.answers.Distance.the-variants as distance
+use Rattle.model.specs.declared.answers.Built.the-variants as built
+use Rattle.model.specs.declared.answers.Reading.the-variants as reading
+use Rattle.model.specs.declared.answers.Written.the-variants as written
+use Rattle.model.specs.Board.{Board, Sheet}
+use Rattle.model.specs.Refusals.{Test, numberOf, sized, lengthRule, sideRule, decodeRules, decodeRefusal, verdictRules, verdictRefusal, distanceRules, distanceRefusal, torusRules, torusRefusal}
+use Rattle.model.specs.Outcomes.{answer, keyOrNone, decodeAnswer, judgedOrNone, verdictAnswer, distanceOf, distanceAnswer, torusAnswer}
+use Rattle.model.specs.Distance.{fewest}
+use Rattle.model.specs.Text.{refused, textOf, readText}
+use Rattle.model.specs.TextOutcomes.{readRules, readRefusal, readOutcome, counts, writeRules, writeRefusal, writeAnswer}
+use Rattle.model.specs.Precedence.{Applies, here, there, Decides, Smallest, AnswersSmallest}
+use Rattle.model.proofs.Contradiction.{zero-one}
+use Rattle.model.proofs.Xor.{and-left, and-right, not-false-true}
+use Rattle.model.proofs.RuleNumbers.{decode-numbers, verdict-numbers, distance-numbers, torus-numbers, read-numbers, write-numbers}
+use Rattle.theory.proofs.Precedence.{empty-applies, decides-exactly, earlier-kept}
+use Rattle.theory.proofs.SmallestNumber.{smallest-exactly, answers-smallest}
+
+-- Decoding
+
+pub decode-smallest : (X : Sheet) (support correction : List ℕ) (r : Refusal)
+    → (decodeRefusal X support correction ≡ some r) ↔ Smallest (decodeRules X support correction) r
+unfolding decodeRefusal
+decode-smallest X support correction = smallest-exactly (decode-numbers X support correction) refl
+
+pub decode-answers : (X : Sheet) (support correction : List ℕ) (q : Refusal) → Applies (decodeRules X support correction) q
+    → AnswersSmallest (decodeRules X support correction) decoded.Refused (decodeAnswer X support correction)
+unfolding decodeAnswer decodeRefusal
+decode-answers X support correction = answers-smallest (decode-numbers X support correction) refl decoded.Refused (keyOrNone X)
+
+-- The verdict
+
+pub verdict-smallest : (X : Sheet) (handed : List ℕ) (r : Refusal) → (verdictRefusal X handed ≡ some r) ↔ Smallest (verdictRules X handed) r
+unfolding verdictRefusal
+verdict-smallest X handed = smallest-exactly (verdict-numbers X handed) refl
+
+pub verdict-answers : (X : Sheet) (handed : List ℕ) (q : Refusal) → Applies (verdictRules X handed) q
+    → AnswersSmallest (verdictRules X handed) verdict.Refused (verdictAnswer X handed)
+unfolding verdictAnswer verdictRefusal
+verdict-answers X handed = answers-smallest (verdict-numbers X handed) refl verdict.Refused (judgedOrNone X handed)
+
+-- The distance
+
+pub distance-smallest : (B : Board) (shown : List ℕ) (r : Refusal) → (distanceRefusal B shown ≡ some r) ↔ Smallest (distanceRules B shown) r
+unfolding distanceRefusal
+distance-smallest B shown = smallest-exactly (distance-numbers B shown) refl
+
+pub distance-answers : (B : Board) (shown : List ℕ) (q : Refusal) → Applies (distanceRules B shown) q
+    → AnswersSmallest (distanceRules B shown) distance.Refused (distanceAnswer B shown)
+unfolding distanceAnswer distanceRefusal
+distance-answers B shown = answers-smallest (distance-numbers B shown) refl distance.Refused (distanceOf (fewest B))
+
+-- The reader
+
+pub read-smallest : (text ends marks syndrome loss : List ℕ) (r : Refusal)
+    → (readRefusal text ends marks syndrome loss ≡ some r) ↔ Smallest (readRules text ends marks syndrome loss) r
+unfolding readRefusal
+read-smallest text ends marks syndrome loss = smallest-exactly (read-numbers text ends marks syndrome loss) refl
+
+pub read-answers : (text ends marks syndrome loss : List ℕ) (q : Refusal) → Applies (readRules text ends marks syndrome loss) q
+    → AnswersSmallest (readRules text ends marks syndrome loss) reading.Refused (counts (readOutcome text ends marks syndrome loss))
+unfolding readOutcome readRefusal
+read-answers text ends marks syndrome loss q a =
+    let w = answers-smallest (read-numbers text ends marks syndrome loss) refl refused (readText text) q a in
+    record { refusal = w .refusal; smallest = w .smallest; answer = ap counts (w .answer) }
+
+-- The writer
+
+pub write-smallest : (X : Sheet) (buffer : List ℕ) (r : Refusal) → (writeRefusal X buffer ≡ some r) ↔ Smallest (writeRules X buffer) r
+unfolding writeRefusal
+write-smallest X buffer = smallest-exactly (write-numbers X buffer) refl
+
+pub write-answers : (X : Sheet) (buffer : List ℕ) (q : Refusal) → Applies (writeRules X buffer) q
+    → AnswersSmallest (writeRules X buffer) written.Refused (writeAnswer X buffer)
+unfolding writeAnswer writeRefusal
+write-answers X buffer = answers-smallest (write-numbers X buffer) refl written.Refused (written.Bytes (length (textOf X)))
+
+-- The torus builder: 11 before 3
+
+pub torus-decides : (L : ℕ) (ends marks : List ℕ) (r : Refusal) → (torusRefusal L ends marks ≡ some r) ↔ Decides (torusRules L ends marks) r
+unfolding torusRefusal
+torus-decides L ends marks = decides-exactly (torus-numbers L ends marks)
+
+-- Theorem: number 3 is given only where the side is in range, since number 11 is tested before.
+pub torus-length : (L : ℕ) (ends marks : List ℕ) → torusRefusal L ends marks ≡ some BufferLength → (2 ≤ L) × (L ≤ 32)
+unfolding torusRefusal
+torus-length L ends marks p =
+    let fit = sized ends (4 * (L * L)) && sized marks (2 * (L * L)) in
+    let kept = earlier-kept (sideRule L ∷ []) (lengthRule fit ∷ []) BufferLength p others in
+    let in-range = not-false-true (leb 2 L && leb L 32) (λ out. kept (TorusSide L) (here (out, refl))) in
+    (leb-true 2 L (and-left (leb 2 L) (leb L 32) in-range), leb-true L 32 (and-right (leb 2 L) (leb L 32) in-range))
+  where
+    others : (q : Refusal) → Applies (sideRule L ∷ []) q → numberOf q ≢ numberOf BufferLength
+    others q (here b) e = let eleven : numberOf q ≡ 11 = ap numberOf (b .1) in omega arith
+    others q (there a) e = empty-applies q a
+
+-- the builder's answer alike
+pub torus-length-answer : (L : ℕ) (ends marks : List ℕ) → torusAnswer L ends marks ≡ built.Refused BufferLength → (2 ≤ L) × (L ≤ 32)
+unfolding torusAnswer
+torus-length-answer L ends marks p = go (torusRefusal L ends marks) refl p
+  where
+    go : (t : Test) → torusRefusal L ends marks ≡ t → answer t built.Refused (built.Vertices (L * L)) ≡ built.Refused BufferLength
+        → (2 ≤ L) × (L ≤ 32)
+    go none e p = zero-one (cc)
+    go (some r) e p = let same : r ≡ BufferLength = cc in torus-length L ends marks (e ∙ ap some same)
