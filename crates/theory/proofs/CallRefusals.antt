@@ -12,7 +12,7 @@ use borrow.Author.Tests.{leb-true}
 use lib.ListN.{length}
 use lib.Dec.{leb}
 use Rattle.model.specs.declared.refusal.Refusal.{Refusal}
-use Rattle.model.specs.declared.refusal.Refusal.the-variants.{BufferLength, TorusSide}
+use Rattle.model.specs.declared.refusal.Refusal.the-variants.{BufferLength, TorusSide, MalformedLine}
 use Rattle.model.specs.declared.answers.Decoded.the-variants as decoded
 use Rattle.model.specs.declared.answers.Verdict.the-variants as verdict
 use Rattle.model.specs.declared.answers.Distance.the-variants as distance
@@ -20,16 +20,16 @@ use Rattle.model.specs.declared.answers.Built.the-variants as built
 use Rattle.model.specs.declared.answers.Reading.the-variants as reading
 use Rattle.model.specs.declared.answers.Written.the-variants as written
 use Rattle.model.specs.Board.{Board, Sheet}
-use Rattle.model.specs.Refusals.{Test, numberOf, sized, lengthRule, sideRule, decodeRules, decodeRefusal, verdictRules, verdictRefusal, distanceRules, distanceRefusal, torusRules, torusRefusal}
+use Rattle.model.specs.Refusals.{Test, numberOf, noneAt, sized, lengthRule, sideRule, decodeRules, decodeRefusal, verdictRules, verdictRefusal, distanceRules, distanceRefusal, torusRules, torusRefusal}
 use Rattle.model.specs.Outcomes.{answer, keyOrNone, decodeAnswer, judgedOrNone, verdictAnswer, distanceOf, distanceAnswer, torusAnswer}
 use Rattle.model.specs.Distance.{fewest}
 use Rattle.model.specs.Text.{refused, textOf, readText}
 use Rattle.model.specs.TextOutcomes.{readRules, readRefusal, readOutcome, counts, writeRules, writeRefusal, writeAnswer}
-use Rattle.model.specs.Precedence.{Applies, here, there, Decides, Smallest, AnswersSmallest}
+use Rattle.model.specs.Precedence.{Applies, here, there, NoneApplies, Decides, Smallest, AnswersSmallest}
 use Rattle.model.proofs.Contradiction.{zero-one}
 use Rattle.model.proofs.Xor.{and-left, and-right, not-false-true}
 use Rattle.model.proofs.RuleNumbers.{decode-numbers, verdict-numbers, distance-numbers, torus-numbers, read-numbers, write-numbers}
-use Rattle.theory.proofs.Precedence.{empty-applies, decides-exactly, earlier-kept}
+use Rattle.theory.proofs.Precedence.{empty-applies, decides-exactly, earlier-kept, other-number}
 use Rattle.theory.proofs.SmallestNumber.{smallest-exactly, answers-smallest}
 
 -- Decoding
@@ -44,6 +44,13 @@ pub decode-answers : (X : Sheet) (support correction : List ℕ) (q : Refusal) �
 unfolding decodeAnswer decodeRefusal
 decode-answers X support correction = answers-smallest (decode-numbers X support correction) refl decoded.Refused (keyOrNone X)
 
+-- Number 10 comes last.
+pub decode-last : (X : Sheet) (support correction : List ℕ) (v : ℕ) → decodeAnswer X support correction ≡ decoded.Refused (noneAt v)
+    → NoneApplies (decodeRules X support correction)
+unfolding decodeAnswer decodeRefusal
+decode-last X support correction v =
+    other-number (decode-numbers X support correction) (noneAt v) refl decoded.Refused (keyOrNone X) (λ q e. cc)
+
 -- The verdict
 
 pub verdict-smallest : (X : Sheet) (handed : List ℕ) (r : Refusal) → (verdictRefusal X handed ≡ some r) ↔ Smallest (verdictRules X handed) r
@@ -54,6 +61,11 @@ pub verdict-answers : (X : Sheet) (handed : List ℕ) (q : Refusal) → Applies 
     → AnswersSmallest (verdictRules X handed) verdict.Refused (verdictAnswer X handed)
 unfolding verdictAnswer verdictRefusal
 verdict-answers X handed = answers-smallest (verdict-numbers X handed) refl verdict.Refused (judgedOrNone X handed)
+
+pub verdict-last : (X : Sheet) (handed : List ℕ) (v : ℕ) → verdictAnswer X handed ≡ verdict.Refused (noneAt v)
+    → NoneApplies (verdictRules X handed)
+unfolding verdictAnswer verdictRefusal
+verdict-last X handed v = other-number (verdict-numbers X handed) (noneAt v) refl verdict.Refused (judgedOrNone X handed) (λ q e. cc)
 
 -- The distance
 
@@ -79,6 +91,13 @@ unfolding readOutcome readRefusal
 read-answers text ends marks syndrome loss q a =
     let w = answers-smallest (read-numbers text ends marks syndrome loss) refl refused (readText text) q a in
     record { refusal = w .refusal; smallest = w .smallest; answer = ap counts (w .answer) }
+
+-- Number 13 comes last.
+pub read-last : (text ends marks syndrome loss : List ℕ) (k : ℕ) → readOutcome text ends marks syndrome loss ≡ refused (MalformedLine k)
+    → NoneApplies (readRules text ends marks syndrome loss)
+unfolding readOutcome readRefusal
+read-last text ends marks syndrome loss k =
+    other-number (read-numbers text ends marks syndrome loss) (MalformedLine k) refl refused (readText text) (λ q e. cc)
 
 -- The writer
 

@@ -2,14 +2,17 @@
 -- Assumes nothing.
 use Prim.Native.Nat.{ℕ, _≤_, _<_}
 use mathlib.Core.Path.{_≡_, refl, sym, ap, _∙_}
-use mathlib.Core.Bool.{true, false, true≢false}
+use mathlib.Core.Bool.{Bool, true, false, true≢false, _||_}
 use mathlib.Core.Logic.{_↔_, _≢_}
 use mathlib.Core.List.{List, [], _∷_, _++_, map}
 use mathlib.Core.Option.{Option, none, some, Option·none-ne-some, Option·some-ne-none}
 use native.Mathlib.Omega.{arith}
+use borrow.Author.Tests.{eq-eqb}
+use lib.Dec.{eqb}
 use Rattle.model.specs.declared.refusal.Refusal.{Refusal}
 use Rattle.model.specs.Sums.{Set, orElse, firstUpTo}
 use Rattle.model.specs.Refusals.{Rule, whole, each, Test, refusedAt, tested, firstFailure, refusalOf, numberOf, placeOf}
+use Rattle.model.specs.Outcomes.{answer}
 use Rattle.model.specs.Precedence.{Broken, Applies, here, there, NoneApplies, BrokenFirst, Decides, HasNumber, HaveNumbers, Numbered}
 use Rattle.model.proofs.SumLaws.{First, none-first, first-found}
 
@@ -199,3 +202,32 @@ earlier-kept front back r p others = go (refusalOf front) refl
         let given : some q ≡ some r = rw e at (sym (append-decides front back) ∙ p) in
         let same : q ≡ r = cc in
         absurd (others q (refused-applies front q e) (ap numberOf same))
+
+-- k is one of the numbers
+abbrev pub oneOf : ℕ → List ℕ → Bool
+oneOf k [] = false
+oneOf k (n ∷ ns) = eqb k n || oneOf k ns
+
+-- what applies has one of the list's numbers
+applies-one-of : (ns : List ℕ) (rules : List Rule) → HaveNumbers ns rules → (r : Refusal) → Applies rules r → oneOf (numberOf r) ns ≡ true
+applies-one-of [] [] h r a = absurd (empty-applies r a)
+applies-one-of (n ∷ ns) [] h r a = absurd h
+applies-one-of [] (R ∷ rules) h r a = absurd h
+applies-one-of (n ∷ ns) (R ∷ rules) h r (here b) = rw (eq-eqb (numberOf r) n (its-number n R (h .0) r b))
+applies-one-of (n ∷ ns) (R ∷ rules) h r (there a) = or-right (eqb (numberOf r) n) (applies-one-of ns rules (h .1) r a)
+  where
+    or-right : (x : Bool) {y : Bool} → y ≡ true → (x || y) ≡ true
+    or-right true q = refl
+    or-right false q = q
+
+-- Theorem: a number that is none of the list's is given only where nothing of the list applies.
+pub other-number : {ns : List ℕ} {rules : List Rule} → Numbered ns rules → (r : Refusal) → oneOf (numberOf r) ns ≡ false
+    → {A : Type 0} (refused : Refusal → A) (else : A) → ((q : Refusal) → refused q ≡ refused r → q ≡ r)
+    → answer (refusalOf rules) refused else ≡ refused r → NoneApplies rules
+other-number {ns} {rules} h r other refused else same p = go (refusalOf rules) refl p
+  where
+    go : (t : Test) → refusalOf rules ≡ t → answer t refused else ≡ refused r → NoneApplies rules
+    go none e p = none-exactly rules .0 e
+    go (some q) e p =
+        let listed = applies-one-of ns rules (h .in-turn) q (refused-applies rules q e) in
+        absurd (true≢false (sym listed ∙ ap (λ x. oneOf (numberOf x) ns) (same q p) ∙ other))
