@@ -4,3 +4,4 @@ pub mod Bits
 pub mod SumLaws
 pub mod ListLaws
 pub mod RuleNumbers
+pub mod ReportExamples
