@@ -5,3 +5,7 @@ pub mod SumLaws
 pub mod ListLaws
 pub mod RuleNumbers
 pub mod ReportExamples
+pub mod Packing
+pub mod Places
+pub mod AnswerBounds
+pub mod ReadBounds

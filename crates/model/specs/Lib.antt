@@ -18,3 +18,4 @@ pub mod MarkedSheets
 pub mod Text
 pub mod TextOutcomes
 pub mod Report
+pub mod Packing

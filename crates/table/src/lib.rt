@@ -11,7 +11,7 @@ ghost use mathlib.Core.Path.{_≡_};
 ghost use Rattle.model.specs.Outcomes.{decodeAnswer, Decodes, verdictAnswer, distanceAnswer, Measures, torusAnswer, Builds};
 ghost use Rattle.model.specs.TextOutcomes.{counts, readOutcome, Reads, writeAnswer, Writes};
 ghost use Rattle.model.specs.Board.{boardOf, sheetOf};
-ghost use Rattle.table.specs.Packing.{packedDecoded, packedVerdict, packedDistance, packedBuilt, packedReading, packedWritten};
+ghost use Rattle.model.specs.Packing.{packedDecoded, packedVerdict, packedDistance, packedBuilt, packedReading, packedWritten};
 
 // The key of a sheet: growths and correction edges, with the support and correction bytes filled.
 #[no_mangle]

@@ -10,7 +10,7 @@ use model::refusal::Refusal;
 use model::refusal::number;
 use model::refusal::place;
 ghost use mathlib.Core.Path.{_≡_};
-ghost use Rattle.table.specs.Packing.{packed, packedRefusal, packedDecoded, packedVerdict, packedDistance, packedBuilt, packedReading, packedWritten};
+ghost use Rattle.model.specs.Packing.{packed, packedRefusal, packedDecoded, packedVerdict, packedDistance, packedBuilt, packedReading, packedWritten};
 
 fn pack(first: usize, second: usize) -> u64
     ensures { λ r. ⌜ r ≡ packed first second ⌝ }

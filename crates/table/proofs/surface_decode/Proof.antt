@@ -1,7 +1,7 @@
 -- The number is the packed answer of the definition, and the buffers are what `decode` leaves. Assumes nothing.
 use mathlib.Core.Path.{ap, _∙_}
 use borrow.Author.Needs.{needs}
-use Rattle.table.specs.Packing.{packedDecoded}
+use Rattle.model.specs.Packing.{packedDecoded}
 use Rattle.table.proofs.surface_decode.Statement.{statement}
 use Rattle.table.proofs.surface_decode.Tie as tie
 

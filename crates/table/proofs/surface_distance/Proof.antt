@@ -1,7 +1,7 @@
 -- The number is the packed answer of the definition, and the buffers are what `distance` leaves. Assumes nothing.
 use mathlib.Core.Path.{ap, _∙_}
 use borrow.Author.Needs.{needs}
-use Rattle.table.specs.Packing.{packedDistance}
+use Rattle.model.specs.Packing.{packedDistance}
 use Rattle.table.proofs.surface_distance.Statement.{statement}
 use Rattle.table.proofs.surface_distance.Tie as tie
 

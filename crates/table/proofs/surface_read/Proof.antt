@@ -1,7 +1,7 @@
 -- The number is the packed answer of the definition, and the buffers are what `read` leaves. Assumes nothing.
 use mathlib.Core.Path.{ap, _∙_}
 use borrow.Author.Needs.{needs}
-use Rattle.table.specs.Packing.{packedReading}
+use Rattle.model.specs.Packing.{packedReading}
 use Rattle.table.proofs.surface_read.Statement.{statement}
 use Rattle.table.proofs.surface_read.Tie as tie
 

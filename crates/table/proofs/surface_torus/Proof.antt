@@ -1,7 +1,7 @@
 -- The number is the packed answer of the definition, and the buffers are what `torus` leaves. Assumes nothing.
 use mathlib.Core.Path.{ap, _∙_}
 use borrow.Author.Needs.{needs}
-use Rattle.table.specs.Packing.{packedBuilt}
+use Rattle.model.specs.Packing.{packedBuilt}
 use Rattle.table.proofs.surface_torus.Statement.{statement}
 use Rattle.table.proofs.surface_torus.Tie as tie
 

@@ -1,7 +1,7 @@
 -- The number is the packed answer of the definition. Assumes nothing.
 use mathlib.Core.Path.{ap, _∙_}
 use borrow.Author.Needs.{needs}
-use Rattle.table.specs.Packing.{packedVerdict}
+use Rattle.model.specs.Packing.{packedVerdict}
 use Rattle.table.proofs.surface_verdict.Statement.{statement}
 use Rattle.table.proofs.surface_verdict.Tie as tie
 

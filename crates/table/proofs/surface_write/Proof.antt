@@ -1,7 +1,7 @@
 -- The number is the packed answer of the definition, and the buffers are what `write` leaves. Assumes nothing.
 use mathlib.Core.Path.{ap, _∙_}
 use borrow.Author.Needs.{needs}
-use Rattle.table.specs.Packing.{packedWritten}
+use Rattle.model.specs.Packing.{packedWritten}
 use Rattle.table.proofs.surface_write.Statement.{statement}
 use Rattle.table.proofs.surface_write.Tie as tie
 

@@ -1,0 +1,137 @@
+-- An answer as one 64-bit number, for C, and what a caller takes from it (include/surface_table.h): bits 0 to 7 are the refusal's number,
+-- or 0; where refused, bits 8 to 63 are the place; else bits 8 to 39 are a first and bits 40 to 63 a second value. Assumes nothing.
+use Prim.Native.Nat.{ℕ, _+_, _*_, _-_, _/_, _%_, _^_}
+use mathlib.Core.Bool.{cond}
+use mathlib.Core.List.{List, [], _∷_}
+use lib.ListN.{getD}
+use lib.Dec.{eqb}
+use Rattle.model.specs.Refusals.{numberOf, placeOf}
+use Rattle.model.specs.declared.refusal.Refusal.{Refusal}
+use Rattle.model.specs.declared.refusal.Refusal.the-variants.{VertexCount, EndCount, BufferLength, EndRange, EqualEnds, MarkRange, SyndromeByte, LossByte, HandedByte, NoCorrection, TorusSide, TextLength, MalformedLine, TextBuffer}
+use Rattle.model.specs.declared.answers.Decoded.{Decoded}
+use Rattle.model.specs.declared.answers.Decoded.the-variants as decoded
+use Rattle.model.specs.declared.answers.Verdict.{Verdict}
+use Rattle.model.specs.declared.answers.Verdict.the-variants as verdict
+use Rattle.model.specs.declared.answers.Distance.{Distance}
+use Rattle.model.specs.declared.answers.Distance.the-variants as distance
+use Rattle.model.specs.declared.answers.Built.{Built}
+use Rattle.model.specs.declared.answers.Built.the-variants as built
+use Rattle.model.specs.declared.answers.Reading.{Reading}
+use Rattle.model.specs.declared.answers.Reading.the-variants as reading
+use Rattle.model.specs.declared.answers.Written.{Written}
+use Rattle.model.specs.declared.answers.Written.the-variants as written
+
+-- Packing
+
+-- a first value of 32 bits and a second of 24; no answer has a larger one (table, `Returned`)
+abbrev pub packed : ℕ → ℕ → ℕ
+packed first second = 2 ^ 8 * (first % 2 ^ 32) + 2 ^ 40 * (second % 2 ^ 24)
+
+-- a place of 56 bits; a side is lent as 32 bits, and every other place is smaller
+abbrev pub packedRefusal : Refusal → ℕ
+packedRefusal n = numberOf n + 2 ^ 8 * (placeOf n % 2 ^ 56)
+
+-- growths, correction edges
+abbrev pub packedDecoded : Decoded → ℕ
+packedDecoded (decoded.Key growths edges) = packed growths edges
+packedDecoded (decoded.Refused n) = packedRefusal n
+
+-- 1 off with the vertex, 2 same, 3 wound with the value
+abbrev pub packedVerdict : Verdict → ℕ
+packedVerdict (verdict.Off v) = packed 1 (v .0)
+packedVerdict verdict.Same = packed 2 0
+packedVerdict (verdict.Wound x) = packed 3 x
+packedVerdict (verdict.Refused n) = packedRefusal n
+
+-- the fewest edges and 1, or 0 and 0 where there is none
+abbrev pub packedDistance : Distance → ℕ
+packedDistance (distance.Fewest d) = packed d 1
+packedDistance distance.Nothing = packed 0 0
+packedDistance (distance.Refused n) = packedRefusal n
+
+-- vertices, 0
+abbrev pub packedBuilt : Built → ℕ
+packedBuilt (built.Vertices n) = packed n 0
+packedBuilt (built.Refused n) = packedRefusal n
+
+-- vertices, edges
+abbrev pub packedReading : Reading → ℕ
+packedReading (reading.Counts vertices edges) = packed vertices edges
+packedReading (reading.Refused n) = packedRefusal n
+
+-- bytes, 0
+abbrev pub packedWritten : Written → ℕ
+packedWritten (written.Bytes n) = packed n 0
+packedWritten (written.Refused n) = packedRefusal n
+
+-- Taking apart
+
+-- bits 0 to 7, bits 8 to 63, bits 8 to 39 and bits 40 to 63 of a number below 2 ^ 64
+abbrev pub refusalNumber : ℕ → ℕ
+refusalNumber r = r % 2 ^ 8
+
+abbrev pub placeIn : ℕ → ℕ
+placeIn r = r / 2 ^ 8
+
+abbrev pub firstValue : ℕ → ℕ
+firstValue r = r / 2 ^ 8 % 2 ^ 32
+
+abbrev pub secondValue : ℕ → ℕ
+secondValue r = r / 2 ^ 40
+
+-- the refusals at a place, in the order of their numbers, from 1
+abbrev pub refusalsAt : ℕ → List Refusal
+refusalsAt at =
+    VertexCount
+    ∷ EndCount
+    ∷ BufferLength
+    ∷ EndRange (record { 0 = at })
+    ∷ EqualEnds (record { 0 = at })
+    ∷ MarkRange (record { 0 = at })
+    ∷ SyndromeByte (record { 0 = at })
+    ∷ LossByte (record { 0 = at })
+    ∷ HandedByte (record { 0 = at })
+    ∷ NoCorrection (record { 0 = at })
+    ∷ TorusSide at
+    ∷ TextLength
+    ∷ MalformedLine at
+    ∷ TextBuffer
+    ∷ []
+
+-- the refusal with a number, 1 to 14, and a place; no call returns a larger number, and one would stand for the last refusal
+abbrev pub unpackedRefusal : ℕ → ℕ → Refusal
+unpackedRefusal n at = getD (refusalsAt at) (n - 1) TextBuffer
+
+-- the refusal where there is a number, else what the two values stand for
+unfoldable pub unpacked : {A : Type 0} → (Refusal → A) → (ℕ → ℕ → A) → ℕ → A
+unpacked refused values r =
+    cond (eqb (refusalNumber r) 0)
+    (values (firstValue r) (secondValue r))
+    (refused (unpackedRefusal (refusalNumber r) (placeIn r)))
+
+unfoldable pub unpackedDecoded : ℕ → Decoded
+unpackedDecoded = unpacked decoded.Refused decoded.Key
+
+-- 1 is off, 2 same, and the only other first value is 3
+abbrev pub verdictWith : ℕ → ℕ → Verdict
+verdictWith first second =
+    cond (eqb first 1) (verdict.Off (record { 0 = second })) (cond (eqb first 2) verdict.Same (verdict.Wound second))
+
+unfoldable pub unpackedVerdict : ℕ → Verdict
+unpackedVerdict = unpacked verdict.Refused verdictWith
+
+-- a second value of 0 says that there is none
+abbrev pub distanceWith : ℕ → ℕ → Distance
+distanceWith first second = cond (eqb second 0) distance.Nothing (distance.Fewest first)
+
+unfoldable pub unpackedDistance : ℕ → Distance
+unpackedDistance = unpacked distance.Refused distanceWith
+
+unfoldable pub unpackedBuilt : ℕ → Built
+unpackedBuilt = unpacked built.Refused (λ vertices rest. built.Vertices vertices)
+
+unfoldable pub unpackedReading : ℕ → Reading
+unpackedReading = unpacked reading.Refused reading.Counts
+
+unfoldable pub unpackedWritten : ℕ → Written
+unpackedWritten = unpacked written.Refused (λ bytes rest. written.Bytes bytes)

@@ -1,0 +1,216 @@
+-- A caller who takes a returned number apart has the call's answer: nothing of any answer is cut off. Assumes nothing.
+use Prim.Native.Nat.{ℕ, _+_, _*_, _^_, _≤_, _<_}
+use mathlib.Core.Path.{_≡_, refl, sym, _∙_}
+use mathlib.Core.Bool.{Bool, true, false, cond, _&&_}
+use mathlib.Core.List.{List, [], _∷_}
+use mathlib.Core.Option.{Option, none, some}
+use native.Mathlib.Nat.{mul-le-mul}
+use native.Mathlib.Omega.{arith}
+use borrow.Author.Tests.{leb-true}
+use lib.ListN.{length}
+use lib.Dec.{eqb, leb}
+use Rattle.model.specs.declared.refusal.Refusal.{Refusal}
+use Rattle.model.specs.declared.refusal.Refusal.the-variants.{TorusSide, TextLength}
+use Rattle.model.specs.declared.answers.Decoded.the-variants as decoded
+use Rattle.model.specs.declared.answers.Verdict.the-variants as verdict
+use Rattle.model.specs.declared.answers.Distance.the-variants as distance
+use Rattle.model.specs.declared.answers.Built.the-variants as built
+use Rattle.model.specs.declared.answers.Reading.the-variants as reading
+use Rattle.model.specs.declared.answers.Written.the-variants as written
+use Rattle.model.specs.Sums.{Set, ones}
+use Rattle.model.specs.Board.{Board, Sheet, Valid, edges}
+use Rattle.model.specs.Winding.{crossings, together, size}
+use Rattle.model.specs.Decoding.{growths, corrected}
+use Rattle.model.specs.Verdict.{differs, judgedAt, judged}
+use Rattle.model.specs.Distance.{fewest}
+use Rattle.model.specs.Refusals.{placeOf, Test, firstFailure, sized, tested, sideRule, lengthRule, oddPartTest, decodeRefusal, verdictRefusal, distanceRefusal, torusRefusal}
+use Rattle.model.specs.Outcomes.{answer, keyOrNone, decodeAnswer, judgedOrNone, verdictAnswer, distanceOf, distanceAnswer, torusAnswer}
+use Rattle.model.specs.Text.{Read, complete, refused, textOf, readText}
+use Rattle.model.specs.TextOutcomes.{textLimit, textRule, readRefusal, readOutcome, counts, writeRefusal, writeAnswer}
+use Rattle.model.specs.Packing.{packedDecoded, packedVerdict, packedDistance, packedBuilt, packedReading, packedWritten, unpackedDecoded, verdictWith, unpackedVerdict, distanceWith, unpackedDistance, unpackedBuilt, unpackedReading, unpackedWritten}
+use Rattle.model.proofs.Packing.{unpacked-values, unpacked-refusal}
+use Rattle.model.proofs.Places.{PlaceBelow, answer-holds}
+use Rattle.model.proofs.AnswerBounds.{growths-bound, size-bound, differs-bound, crossings-bound, fewest-bound}
+use Rattle.model.proofs.ReadBounds.{ReadWithin, text-within}
+use Rattle.model.proofs.Xor.{and-right}
+use Rattle.board.specs.Rules.{sheetRefusal}
+use Rattle.board.proofs.Rows.{neither-fails, each-passes}
+use Rattle.board.proofs.Passing.{unless-passes}
+use Rattle.board.proofs.Calls.{decode-passes, verdict-passes, distance-passes}
+use Rattle.text.proofs.ReadOutcome.{fit}
+use Rattle.text.proofs.WriteOutcome.{textTests, write-tests}
+use Rattle.table.proofs.Places.{roomy, decode-small, verdict-small, odd-small, distance-small, torus-side, read-small, write-small}
+
+-- An answer comes back where the refusals of its test and what follows where it passes do.
+back : {A : Type 0} (pack : A → ℕ) (unpack : ℕ → A) {refused : Refusal → A} {else : A} (t : Test)
+    → ((n : Refusal) → placeOf n < 2 ^ 56 → unpack (pack (refused n)) ≡ refused n) → PlaceBelow (2 ^ 56) t
+    → (t ≡ none → unpack (pack else) ≡ else)
+    → unpack (pack (answer t refused else)) ≡ answer t refused else
+back pack unpack {refused} {else} t fails small passes =
+    answer-holds (λ a. unpack (pack a) ≡ a) t refused else (λ n p. fails n (small .below n p)) passes
+
+-- Decoding: growths and correction edges
+
+decode-refusal : (n : Refusal) → placeOf n < 2 ^ 56 → unpackedDecoded (packedDecoded (decoded.Refused n)) ≡ decoded.Refused n
+unfolding unpackedDecoded
+decode-refusal n h = unpacked-refusal decoded.Refused decoded.Key n h
+
+decode-key : (X : Sheet) → Valid (X .board) → unpackedDecoded (packedDecoded (decoded.Key (growths X) (size (X .board) (corrected X))))
+    ≡ decoded.Key (growths X) (size (X .board) (corrected X))
+unfolding unpackedDecoded
+decode-key X v =
+    unpacked-values decoded.Refused decoded.Key (growths X) (size (X .board) (corrected X))
+    (omega (arith, growths-bound X, v .edge-limit))
+    (omega (arith, size-bound (X .board) (corrected X), v .edge-limit))
+
+pub decode-returned : (X : Sheet) (support correction : List ℕ) →
+    unpackedDecoded (packedDecoded (decodeAnswer X support correction)) ≡ decodeAnswer X support correction
+unfolding decodeAnswer keyOrNone
+decode-returned X support correction =
+    back packedDecoded unpackedDecoded (decodeRefusal X support correction) decode-refusal (roomy (decode-small X support correction))
+    (λ p.
+    let v = decode-passes X support correction p .sheet .board in
+    back packedDecoded unpackedDecoded (oddPartTest X) decode-refusal (roomy (odd-small X (v .vertex-limit))) (λ q. decode-key X v))
+
+-- The verdict: off with a vertex, same, or wound with 1 to 3
+
+verdict-refusal : (n : Refusal) → placeOf n < 2 ^ 56 → unpackedVerdict (packedVerdict (verdict.Refused n)) ≡ verdict.Refused n
+unfolding unpackedVerdict
+verdict-refusal n h = unpacked-refusal verdict.Refused verdictWith n h
+
+verdict-judged : (X : Sheet) (H : Set) → Valid (X .board) →
+    let r = judged (X .board) (ones (X .syndrome)) (corrected X) H in
+    unpackedVerdict (packedVerdict r) ≡ r
+unfolding judged unpackedVerdict
+verdict-judged X H v = go (differs B (ones (X .syndrome)) H) refl
+  where
+    B : Board
+    B = X .board
+
+    x : ℕ
+    x = crossings B (together H (corrected X))
+
+    marked : (t : Bool) → unpackedVerdict (packedVerdict (cond t verdict.Same (verdict.Wound x))) ≡ cond t verdict.Same (verdict.Wound x)
+    marked true = unpacked-values verdict.Refused verdictWith 2 0 (omega arith) (omega arith)
+    marked false =
+        unpacked-values verdict.Refused verdictWith 3 x (omega arith) (omega (arith, crossings-bound B (together H (corrected X))))
+
+    go : (o : Option ℕ) → differs B (ones (X .syndrome)) H ≡ o → unpackedVerdict (packedVerdict (judgedAt o x)) ≡ judgedAt o x
+    go none p = marked (eqb x 0)
+    go (some u) p =
+        unpacked-values verdict.Refused verdictWith 1 u (omega arith)
+        (omega (arith, differs-bound B (ones (X .syndrome)) H u p, v .vertex-limit))
+
+pub verdict-returned : (X : Sheet) (handed : List ℕ) → unpackedVerdict (packedVerdict (verdictAnswer X handed)) ≡ verdictAnswer X handed
+unfolding verdictAnswer judgedOrNone
+verdict-returned X handed =
+    back packedVerdict unpackedVerdict (verdictRefusal X handed) verdict-refusal (roomy (verdict-small X handed))
+    (λ p.
+    let v = verdict-passes X handed p .sheet .board in
+    back packedVerdict unpackedVerdict (oddPartTest X) verdict-refusal (roomy (odd-small X (v .vertex-limit)))
+    (λ q. verdict-judged X (ones handed) v))
+
+-- The distance: the fewest edges, or none
+
+distance-refusal : (n : Refusal) → placeOf n < 2 ^ 56 → unpackedDistance (packedDistance (distance.Refused n)) ≡ distance.Refused n
+unfolding unpackedDistance
+distance-refusal n h = unpacked-refusal distance.Refused distanceWith n h
+
+distance-fewest : (B : Board) → Valid B → unpackedDistance (packedDistance (distanceOf (fewest B))) ≡ distanceOf (fewest B)
+unfolding unpackedDistance
+distance-fewest B v = go (fewest B) refl
+  where
+    go : (o : Option ℕ) → fewest B ≡ o → unpackedDistance (packedDistance (distanceOf o)) ≡ distanceOf o
+    go none p = unpacked-values distance.Refused distanceWith 0 0 (omega arith) (omega arith)
+    go (some d) p =
+        unpacked-values distance.Refused distanceWith d 1 (omega (arith, fewest-bound B d p, v .edge-limit)) (omega arith)
+
+pub distance-returned : (B : Board) (shown : List ℕ) → unpackedDistance (packedDistance (distanceAnswer B shown)) ≡ distanceAnswer B shown
+unfolding distanceAnswer
+distance-returned B shown =
+    back packedDistance unpackedDistance (distanceRefusal B shown) distance-refusal (roomy (distance-small B shown))
+    (λ p. distance-fewest B (distance-passes B shown p .board))
+
+-- The torus: L² vertices. A side is lent as 32 bits.
+
+torus-refusal : (n : Refusal) → placeOf n < 2 ^ 56 → unpackedBuilt (packedBuilt (built.Refused n)) ≡ built.Refused n
+unfolding unpackedBuilt
+torus-refusal n h = unpacked-refusal built.Refused (λ vertices rest. built.Vertices vertices) n h
+
+torus-vertices : (n : ℕ) → n < 2 ^ 32 → unpackedBuilt (packedBuilt (built.Vertices n)) ≡ built.Vertices n
+unfolding unpackedBuilt
+torus-vertices n h = unpacked-values built.Refused (λ vertices rest. built.Vertices vertices) n 0 h (omega arith)
+
+-- the side passes its test
+torus-passes : (side : ℕ) (ends marks : List ℕ) → torusRefusal side ends marks ≡ none → side ≤ 32
+unfolding torusRefusal
+torus-passes side ends marks p =
+    let fits = sized ends (4 * (side * side)) && sized marks (2 * (side * side)) in
+    let e = each-passes (tested (sideRule side) ∷ tested (lengthRule fits) ∷ []) p in
+    leb-true side 32 (and-right (leb 2 side) (leb side 32) (unless-passes (leb 2 side && leb side 32) (TorusSide side) (e .0)))
+
+pub torus-returned : (side : ℕ) (ends marks : List ℕ) → side < 2 ^ 32
+    → unpackedBuilt (packedBuilt (torusAnswer side ends marks)) ≡ torusAnswer side ends marks
+unfolding torusAnswer
+torus-returned side ends marks h =
+    back packedBuilt unpackedBuilt (torusRefusal side ends marks) torus-refusal (torus-side side ends marks h)
+    (λ p.
+    let few = torus-passes side ends marks p in
+    torus-vertices (side * side) (omega (arith, mul-le-mul few few)))
+
+-- Reading: both counts
+
+read-refusal : (n : Refusal) → placeOf n < 2 ^ 56 → unpackedReading (packedReading (reading.Refused n)) ≡ reading.Refused n
+unfolding unpackedReading
+read-refusal n h = unpacked-refusal reading.Refused reading.Counts n h
+
+-- the text passes its test
+read-passes : (text ends marks syndrome loss : List ℕ) → readRefusal text ends marks syndrome loss ≡ none → length text ≤ textLimit
+unfolding readRefusal
+read-passes text ends marks syndrome loss p =
+    let e = each-passes (tested (lengthRule (fit ends marks syndrome loss)) ∷ tested (textRule text) ∷ []) p in
+    leb-true (length text) textLimit (unless-passes (leb (length text) textLimit) TextLength (e .1 .0))
+
+read-counts : (o : Read) → ReadWithin (textLimit + 2) o → unpackedReading (packedReading (counts o)) ≡ counts o
+unfolding unpackedReading
+read-counts (complete X) w =
+    unpacked-values reading.Refused reading.Counts (X .board .vertices) (edges (X .board))
+    (omega (arith, w .vertex-limit))
+    (omega (arith, w .edge-limit))
+read-counts (refused n) w = read-refusal n (omega arith)
+
+pub read-returned : (text ends marks syndrome loss : List ℕ) →
+    let r = counts (readOutcome text ends marks syndrome loss) in
+    unpackedReading (packedReading r) ≡ r
+unfolding readOutcome
+read-returned text ends marks syndrome loss =
+    answer-holds (λ o. unpackedReading (packedReading (counts o)) ≡ counts o) (readRefusal text ends marks syndrome loss) refused (readText text)
+    (λ n p. read-refusal n (roomy (read-small text ends marks syndrome loss) .below n p))
+    (λ p. read-counts (readText text) (longer (readText text) (read-passes text ends marks syndrome loss p) (text-within text)))
+  where
+    longer : (o : Read) → length text ≤ textLimit → ReadWithin (length text + 2) o → ReadWithin (textLimit + 2) o
+    longer (complete X) h w = w
+    longer (refused n) h w = omega arith
+
+-- Writing: the byte count
+
+write-refusal : (n : Refusal) → placeOf n < 2 ^ 56 → unpackedWritten (packedWritten (written.Refused n)) ≡ written.Refused n
+unfolding unpackedWritten
+write-refusal n h = unpacked-refusal written.Refused (λ bytes rest. written.Bytes bytes) n h
+
+write-bytes : (n : ℕ) → n < 2 ^ 32 → unpackedWritten (packedWritten (written.Bytes n)) ≡ written.Bytes n
+unfolding unpackedWritten
+write-bytes n h = unpacked-values written.Refused (λ bytes rest. written.Bytes bytes) n 0 h (omega arith)
+
+-- the text passes its test
+write-passes : (X : Sheet) (buffer : List ℕ) → writeRefusal X buffer ≡ none → length (textOf X) ≤ textLimit
+write-passes X buffer p =
+    let t = neither-fails (sheetRefusal X true) (firstFailure (textTests X buffer)) (sym (write-tests X buffer) ∙ p) in
+    let e = each-passes (textTests X buffer) (t .1) in
+    leb-true (length (textOf X)) textLimit (unless-passes (leb (length (textOf X)) textLimit) TextLength (e .0))
+
+pub write-returned : (X : Sheet) (buffer : List ℕ) → unpackedWritten (packedWritten (writeAnswer X buffer)) ≡ writeAnswer X buffer
+unfolding writeAnswer
+write-returned X buffer =
+    back packedWritten unpackedWritten (writeRefusal X buffer) write-refusal (roomy (write-small X buffer))
+    (λ p. write-bytes (length (textOf X)) (omega (arith, write-passes X buffer p)))
