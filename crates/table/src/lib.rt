@@ -1,4 +1,6 @@
-// The static library: the calls of the table under plain C names, each answering one packed number.
+// The static library: the calls of the table under plain C names, each answering one packed number. Of each, `number` says which number,
+// and `outcome` that what a caller takes from it is the call's answer, with the final contents of every buffer; of decoding and of the
+// verdict, `sound` says what may be relied on, of the same answer.
 mod packing;
 
 use crate::packing::pack_built;
@@ -8,10 +10,17 @@ use crate::packing::pack_reading;
 use crate::packing::pack_verdict;
 use crate::packing::pack_written;
 ghost use mathlib.Core.Path.{_≡_};
-ghost use Rattle.model.specs.Outcomes.{decodeAnswer, Decodes, verdictAnswer, distanceAnswer, Measures, torusAnswer, Builds};
-ghost use Rattle.model.specs.TextOutcomes.{counts, readOutcome, Reads, writeAnswer, Writes};
+ghost use mathlib.Core.Option.{none};
+ghost use Rattle.model.specs.Sums.{ones};
 ghost use Rattle.model.specs.Board.{boardOf, sheetOf};
+ghost use Rattle.model.specs.Decoding.{corrected};
+ghost use Rattle.model.specs.Demand3.{Demand3};
+ghost use Rattle.model.specs.Verdict.{SoundVerdict};
+ghost use Rattle.model.specs.Refusals.{decodeRefusal, verdictRefusal};
+ghost use Rattle.model.specs.Outcomes.{decodeAnswer, Decodes, verdictAnswer, Judges, distanceAnswer, Measures, torusAnswer, Builds};
+ghost use Rattle.model.specs.TextOutcomes.{counts, readOutcome, Reads, writeAnswer, Writes};
 ghost use Rattle.model.specs.Packing.{packedDecoded, packedVerdict, packedDistance, packedBuilt, packedReading, packedWritten};
+ghost use Rattle.model.specs.Packing.{unpackedDecoded, unpackedVerdict, unpackedDistance, unpackedBuilt, unpackedReading, unpackedWritten};
 
 // The key of a sheet: growths and correction edges, with the support and correction bytes filled.
 #[no_mangle]
@@ -25,7 +34,8 @@ pub extern "C" fn surface_decode(
     correction: &mut [u8],
 ) -> u64
     ensures number { λ r. ⌜ r ≡ packedDecoded (decodeAnswer (sheetOf (boardOf vertices (now (ends .entry)) (now (marks .entry))) (now (syndrome .entry)) (now (loss .entry))) (now (support .entry)) (now (correction .entry))) ⌝ }
-    ensures buffers { λ r. ⌜ Decodes (sheetOf (boardOf vertices (now (ends .entry)) (now (marks .entry))) (now (syndrome .entry)) (now (loss .entry))) (now (support .entry)) (now (correction .entry)) (decodeAnswer (sheetOf (boardOf vertices (now (ends .entry)) (now (marks .entry))) (now (syndrome .entry)) (now (loss .entry))) (now (support .entry)) (now (correction .entry))) (now (support .exit)) (now (correction .exit)) ⌝ }
+    ensures outcome { λ r. ⌜ Decodes (sheetOf (boardOf vertices (now (ends .entry)) (now (marks .entry))) (now (syndrome .entry)) (now (loss .entry))) (now (support .entry)) (now (correction .entry)) (unpackedDecoded r) (now (support .exit)) (now (correction .exit)) ⌝ }
+    ensures sound { λ r. ⌜ (decodeRefusal (sheetOf (boardOf vertices (now (ends .entry)) (now (marks .entry))) (now (syndrome .entry)) (now (loss .entry))) (now (support .entry)) (now (correction .entry)) ≡ none → Demand3 (boardOf vertices (now (ends .entry)) (now (marks .entry))) (ones (now (syndrome .entry))) (ones (now (loss .entry))) (unpackedDecoded r) (ones (now (correction .exit)))) ⌝ }
 {
     let decoded = decoder::decode(vertices, ends, marks, syndrome, loss, support, correction);
     pack_decoded(decoded)
@@ -42,6 +52,8 @@ pub extern "C" fn surface_verdict(
     handed: &[u8],
 ) -> u64
     ensures number { λ r. ⌜ r ≡ packedVerdict (verdictAnswer (sheetOf (boardOf vertices (now (ends .entry)) (now (marks .entry))) (now (syndrome .entry)) (now (loss .entry))) (now (handed .entry))) ⌝ }
+    ensures outcome { λ r. ⌜ Judges (sheetOf (boardOf vertices (now (ends .entry)) (now (marks .entry))) (now (syndrome .entry)) (now (loss .entry))) (now (handed .entry)) (unpackedVerdict r) ⌝ }
+    ensures sound { λ r. ⌜ (verdictRefusal (sheetOf (boardOf vertices (now (ends .entry)) (now (marks .entry))) (now (syndrome .entry)) (now (loss .entry))) (now (handed .entry)) ≡ none → SoundVerdict (boardOf vertices (now (ends .entry)) (now (marks .entry))) (ones (now (syndrome .entry))) (ones (now (loss .entry))) (corrected (sheetOf (boardOf vertices (now (ends .entry)) (now (marks .entry))) (now (syndrome .entry)) (now (loss .entry)))) (ones (now (handed .entry))) (unpackedVerdict r)) ⌝ }
 {
     let judged = verdict::verdict(vertices, ends, marks, syndrome, loss, handed);
     pack_verdict(judged)
@@ -56,7 +68,7 @@ pub extern "C" fn surface_distance(
     shown: &mut [u8],
 ) -> u64
     ensures number { λ r. ⌜ r ≡ packedDistance (distanceAnswer (boardOf vertices (now (ends .entry)) (now (marks .entry))) (now (shown .entry))) ⌝ }
-    ensures buffers { λ r. ⌜ Measures (boardOf vertices (now (ends .entry)) (now (marks .entry))) (now (shown .entry)) (distanceAnswer (boardOf vertices (now (ends .entry)) (now (marks .entry))) (now (shown .entry))) (now (shown .exit)) ⌝ }
+    ensures outcome { λ r. ⌜ Measures (boardOf vertices (now (ends .entry)) (now (marks .entry))) (now (shown .entry)) (unpackedDistance r) (now (shown .exit)) ⌝ }
 {
     let measured = distance::distance(vertices, ends, marks, shown);
     pack_distance(measured)
@@ -66,7 +78,7 @@ pub extern "C" fn surface_distance(
 #[no_mangle]
 pub extern "C" fn surface_torus(side: u32, ends: &mut [u16], marks: &mut [u8]) -> u64
     ensures number { λ r. ⌜ r ≡ packedBuilt (torusAnswer side (now (ends .entry)) (now (marks .entry))) ⌝ }
-    ensures buffers { λ r. ⌜ Builds side (now (ends .entry)) (now (marks .entry)) (torusAnswer side (now (ends .entry)) (now (marks .entry))) (now (ends .exit)) (now (marks .exit)) ⌝ }
+    ensures outcome { λ r. ⌜ Builds side (now (ends .entry)) (now (marks .entry)) (unpackedBuilt r) (now (ends .exit)) (now (marks .exit)) ⌝ }
 {
     let built = torus::torus(side as usize, ends, marks);
     pack_built(built)
@@ -82,7 +94,7 @@ pub extern "C" fn surface_read(
     loss: &mut [u8],
 ) -> u64
     ensures number { λ r. ⌜ r ≡ packedReading (counts (readOutcome (now (text .entry)) (now (ends .entry)) (now (marks .entry)) (now (syndrome .entry)) (now (loss .entry)))) ⌝ }
-    ensures buffers { λ r. ⌜ Reads (now (text .entry)) (now (ends .entry)) (now (marks .entry)) (now (syndrome .entry)) (now (loss .entry)) (counts (readOutcome (now (text .entry)) (now (ends .entry)) (now (marks .entry)) (now (syndrome .entry)) (now (loss .entry)))) (now (ends .exit)) (now (marks .exit)) (now (syndrome .exit)) (now (loss .exit)) ⌝ }
+    ensures outcome { λ r. ⌜ Reads (now (text .entry)) (now (ends .entry)) (now (marks .entry)) (now (syndrome .entry)) (now (loss .entry)) (unpackedReading r) (now (ends .exit)) (now (marks .exit)) (now (syndrome .exit)) (now (loss .exit)) ⌝ }
 {
     let reading = text::reading::read(text, ends, marks, syndrome, loss);
     pack_reading(reading)
@@ -99,7 +111,7 @@ pub extern "C" fn surface_write(
     text: &mut [u8],
 ) -> u64
     ensures number { λ r. ⌜ r ≡ packedWritten (writeAnswer (sheetOf (boardOf vertices (now (ends .entry)) (now (marks .entry))) (now (syndrome .entry)) (now (loss .entry))) (now (text .entry))) ⌝ }
-    ensures buffers { λ r. ⌜ Writes (sheetOf (boardOf vertices (now (ends .entry)) (now (marks .entry))) (now (syndrome .entry)) (now (loss .entry))) (now (text .entry)) (writeAnswer (sheetOf (boardOf vertices (now (ends .entry)) (now (marks .entry))) (now (syndrome .entry)) (now (loss .entry))) (now (text .entry))) (now (text .exit)) ⌝ }
+    ensures outcome { λ r. ⌜ Writes (sheetOf (boardOf vertices (now (ends .entry)) (now (marks .entry))) (now (syndrome .entry)) (now (loss .entry))) (now (text .entry)) (unpackedWritten r) (now (text .exit)) ⌝ }
 {
     let written = text::writing::write(vertices, ends, marks, syndrome, loss, text);
     pack_written(written)

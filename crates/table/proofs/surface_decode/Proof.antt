@@ -1,7 +1,9 @@
--- The number is the packed answer of the definition, and the buffers are what `decode` leaves. Assumes nothing.
-use mathlib.Core.Path.{ap, _∙_}
+-- The number is the packed answer of the definition; what it is taken apart into is what `decode` answered, with the buffers that it left.
+-- Assumes nothing.
+use mathlib.Core.Path.{sym, ap, _∙_}
 use borrow.Author.Needs.{needs}
-use Rattle.model.specs.Packing.{packedDecoded}
+use Rattle.model.specs.Packing.{packedDecoded, unpackedDecoded}
+use Rattle.table.proofs.Returned.{decode-returned}
 use Rattle.table.proofs.surface_decode.Statement.{statement}
 use Rattle.table.proofs.surface_decode.Tie as tie
 
@@ -20,7 +22,9 @@ same-length-2 c = search needs
 returns : tie.Need-returns
 returns c =
     let w = c .before .before .before .before .before .decode .ensures .0 in
-    (c .pack-decoded .ensures ∙ ap packedDecoded (w .result), rw (w .result) at w)
+    let number = c .pack-decoded .ensures ∙ ap packedDecoded (w .result) in
+    let taken = w .result ∙ sym (ap unpackedDecoded number ∙ decode-returned _ _ _) in
+    (number, (rw taken at w, rw taken at (c .before .before .before .before .before .decode .ensures .1)))
 
 pub surface-decode-spec : {M : Type 1} → statement M
 surface-decode-spec = tie.close (tie.spec decode-requires pack-decoded-requires same-length same-length-2 returns)

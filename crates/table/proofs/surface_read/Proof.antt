@@ -1,7 +1,9 @@
--- The number is the packed answer of the definition, and the buffers are what `read` leaves. Assumes nothing.
-use mathlib.Core.Path.{ap, _∙_}
+-- The number is the packed answer of the definition; what it is taken apart into is what `read` answered, with the buffers that it left.
+-- Assumes nothing.
+use mathlib.Core.Path.{sym, ap, _∙_}
 use borrow.Author.Needs.{needs}
-use Rattle.model.specs.Packing.{packedReading}
+use Rattle.model.specs.Packing.{packedReading, unpackedReading}
+use Rattle.table.proofs.Returned.{read-returned}
 use Rattle.table.proofs.surface_read.Statement.{statement}
 use Rattle.table.proofs.surface_read.Tie as tie
 
@@ -26,7 +28,9 @@ same-length-4 c = search needs
 returns : tie.Need-returns
 returns c =
     let w = c .before .before .before .before .before .before .before .before .before .read .ensures in
-    (c .pack-reading .ensures ∙ ap packedReading (w .result), rw (w .result) at w)
+    let number = c .pack-reading .ensures ∙ ap packedReading (w .result) in
+    let taken = w .result ∙ sym (ap unpackedReading number ∙ read-returned _ _ _ _ _) in
+    (number, rw taken at w)
 
 pub surface-read-spec : {M : Type 1} → statement M
 surface-read-spec = tie.close (tie.spec read-requires pack-reading-requires same-length same-length-2 same-length-3 same-length-4 returns)

@@ -1,7 +1,9 @@
--- The number is the packed answer of the definition, and the buffers are what `write` leaves. Assumes nothing.
-use mathlib.Core.Path.{ap, _∙_}
+-- The number is the packed answer of the definition; what it is taken apart into is what `write` answered, with the buffers that it left.
+-- Assumes nothing.
+use mathlib.Core.Path.{sym, ap, _∙_}
 use borrow.Author.Needs.{needs}
-use Rattle.model.specs.Packing.{packedWritten}
+use Rattle.model.specs.Packing.{packedWritten, unpackedWritten}
+use Rattle.table.proofs.Returned.{write-returned}
 use Rattle.table.proofs.surface_write.Statement.{statement}
 use Rattle.table.proofs.surface_write.Tie as tie
 
@@ -17,7 +19,9 @@ same-length c = search needs
 returns : tie.Need-returns
 returns c =
     let w = c .before .before .before .write .ensures in
-    (c .pack-written .ensures ∙ ap packedWritten (w .result), rw (w .result) at w)
+    let number = c .pack-written .ensures ∙ ap packedWritten (w .result) in
+    let taken = w .result ∙ sym (ap unpackedWritten number ∙ write-returned _ _) in
+    (number, rw taken at w)
 
 pub surface-write-spec : {M : Type 1} → statement M
 surface-write-spec = tie.close (tie.spec write-requires pack-written-requires same-length returns)
