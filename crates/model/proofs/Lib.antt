@@ -7,5 +7,3 @@ pub mod RuleNumbers
 pub mod ReportExamples
 pub mod Packing
 pub mod Places
-pub mod AnswerBounds
-pub mod ReadBounds

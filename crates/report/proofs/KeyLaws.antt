@@ -10,7 +10,7 @@ use Rattle.model.specs.declared.answers.Decoded.{Decoded}
 use Rattle.model.specs.declared.answers.Decoded.the-variants.{Key, Refused}
 use Rattle.model.specs.declared.answers.Distance.{Distance}
 use Rattle.model.specs.Sums.{bit, ones, bytes}
-use Rattle.model.specs.Board.{Board, Sheet, Valid, ValidSheet, edges}
+use Rattle.model.specs.Board.{Board, Sheet, Valid, edges}
 use Rattle.model.specs.Winding.{size}
 use Rattle.model.specs.Decoding.{smallestOdd, growths, corrected}
 use Rattle.model.specs.Distance.{fewest}
@@ -19,10 +19,9 @@ use Rattle.model.specs.Outcomes.{keyOrNone, keyOr, Decodes, distanceOf, distanc
 use Rattle.model.specs.Report.{letterG, letterC, edgeLines, distanceLine, refusalLine, keyReport, sheetReport}
 use Rattle.model.proofs.Contradiction.{zero-one}
 use Rattle.model.proofs.ListLaws.{length-values, ones-bytes}
-use Rattle.theory.proofs.Syndromes.{valid-in-range}
 use Rattle.theory.proofs.MarkedBytes.{members-cong}
-use Rattle.theory.proofs.GrowthBound.{growth-limit}
-use Rattle.theory.proofs.Decodings.{passed-answer, none-answer, key-answer, key-reached}
+use Rattle.theory.proofs.AnswerBounds.{growths-bound}
+use Rattle.theory.proofs.Decodings.{passed-answer, none-answer, key-answer}
 use Rattle.board.proofs.Calls.{passes-decode, passes-distance}
 use Rattle.text.specs.Printing.{numberBytes, listedBytes}
 use Rattle.text.proofs.PrintLaws.{listed-short}
@@ -120,7 +119,7 @@ module _ (X : Sheet) (support correction support′ correction′ out : List ℕ
           let is = d .correction-bytes ∙ ap (λ x. keyOr x (bytes (edges (X .board)) (corrected X)) correction) key in
           record {
             is-growths = same;
-            limit = rw same (growth-limit (X .board) (valid-in-range (lent .sheet .board)) (ones (X .syndrome)) (ones (X .loss)) p (key-reached X));
+            limit = rw same (growths-bound X);
             correction-is = is;
             report-is = ap₂ (keyLines (X .board)) same is ∙ key-lines X ∙ sym (even-report X p);
           }

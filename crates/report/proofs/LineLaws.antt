@@ -10,13 +10,12 @@ use lib.ListN.{length, drop, length-append}
 use lib.Seq.{sets-eq}
 use Rattle.model.specs.declared.refusal.Refusal.{Refusal}
 use Rattle.model.specs.Sums.{Set, members}
-use Rattle.model.specs.Board.{Board, Valid, edges}
+use Rattle.model.specs.Board.{Board, Valid}
 use Rattle.model.specs.Distance.{fewest}
 use Rattle.model.specs.Refusals.{numberOf, placeOf}
 use Rattle.model.specs.Text.{newline, tab, decimal, fieldsOf}
 use Rattle.model.specs.Report.{letterC, letterD, letterN, dash, reportLine, edgeLines, distanceLine, refusalLine, InFront}
-use Rattle.model.proofs.SumLaws.{count-bound}
-use Rattle.theory.proofs.Distances.{fewest-least}
+use Rattle.theory.proofs.AnswerBounds.{fewest-bound}
 use Rattle.text.specs.Printing.{Puts, fieldBytes, numberBytes, placeBytes, listedBytes}
 use Rattle.text.proofs.DecimalLaws.{nines, digits}
 use Rattle.text.proofs.PutLaws.{length-number}
@@ -71,9 +70,7 @@ distance-short B w = go (fewest B) refl
   where
     go : (o : Option ℕ) → fewest B ≡ o → length (distanceLine o) ≤ 7
     go none p = rw dash-bytes (omega arith)
-    go (some d) p =
-        let loop = fewest-least B d p .reached in
-        rw (distance-bytes d) (number-short letterD d (omega (arith, count-bound (edges B) (loop .loop), loop .count, w .edge-limit)))
+    go (some d) p = rw (distance-bytes d) (number-short letterD d (omega (arith, fewest-bound B d p, w .edge-limit)))
 
 -- what is put at the begin of a buffer that has room for it stands in front
 pub fronts : {bytes out out′ : List ℕ} {r : ℕ} → Puts bytes out 0 r out′ → length bytes ≤ length out → InFront bytes out r out′

@@ -15,7 +15,7 @@ use Rattle.model.specs.Refusals.{Test, sized, edgesOf, firstFailure, tested, si
 use Rattle.model.specs.Text.{textOf}
 use Rattle.model.specs.TextOutcomes.{textLimit, textRule, readRefusal, writeRefusal}
 use Rattle.model.proofs.Places.{PlaceBelow, wider, unless-below, at-below, first-below, else-below, row-below}
-use Rattle.model.proofs.AnswerBounds.{odd-vertex}
+use Rattle.theory.proofs.AnswerBounds.{odd-vertex}
 use Rattle.board.specs.Rules.{outside, equalEnds, above, countTests, edgeTests, byteTests, boardRefusal, sheetRefusal}
 use Rattle.board.proofs.Validity.{board-tests, counts-allow, sheet-tests, board-allows}
 use Rattle.board.proofs.Calls.{decode-tests, verdict-tests, sheet-allows, distance-tests}

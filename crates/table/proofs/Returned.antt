@@ -30,8 +30,9 @@ use Rattle.model.specs.TextOutcomes.{textLimit, textRule, readRefusal, readOutc
 use Rattle.model.specs.Packing.{packedDecoded, packedVerdict, packedDistance, packedBuilt, packedReading, packedWritten, unpackedDecoded, verdictWith, unpackedVerdict, distanceWith, unpackedDistance, unpackedBuilt, unpackedReading, unpackedWritten}
 use Rattle.model.proofs.Packing.{unpacked-values, unpacked-refusal}
 use Rattle.model.proofs.Places.{PlaceBelow, answer-holds}
-use Rattle.model.proofs.AnswerBounds.{growths-bound, size-bound, differs-bound, crossings-bound, fewest-bound}
-use Rattle.model.proofs.ReadBounds.{ReadWithin, text-within}
+use Rattle.theory.proofs.AnswerBounds.{growths-bound, size-bound, differs-bound, crossings-bound, fewest-bound}
+use Rattle.theory.proofs.ReadBounds.{LineBelow, line-below}
+use Rattle.theory.proofs.RoundTrip.{written-read}
 use Rattle.model.proofs.Xor.{and-right}
 use Rattle.board.specs.Rules.{sheetRefusal}
 use Rattle.board.proofs.Rows.{neither-fails, each-passes}
@@ -171,13 +172,15 @@ read-passes text ends marks syndrome loss p =
     let e = each-passes (tested (lengthRule (fit ends marks syndrome loss)) ∷ tested (textRule text) ∷ []) p in
     leb-true (length text) textLimit (unless-passes (leb (length text) textLimit) TextLength (e .1 .0))
 
-read-counts : (o : Read) → ReadWithin (textLimit + 2) o → unpackedReading (packedReading (counts o)) ≡ counts o
+read-counts : (text : List ℕ) (o : Read) → readText text ≡ o → length text ≤ textLimit → LineBelow (length text + 2) o
+    → unpackedReading (packedReading (counts o)) ≡ counts o
 unfolding unpackedReading
-read-counts (complete X) w =
+read-counts text (complete X) p h w =
+    let v = written-read text X p .valid .board in
     unpacked-values reading.Refused reading.Counts (X .board .vertices) (edges (X .board))
-    (omega (arith, w .vertex-limit))
-    (omega (arith, w .edge-limit))
-read-counts (refused n) w = read-refusal n (omega arith)
+    (omega (arith, v .vertex-limit))
+    (omega (arith, v .edge-limit))
+read-counts text (refused n) p h w = read-refusal n (omega arith)
 
 pub read-returned : (text ends marks syndrome loss : List ℕ) →
     let r = counts (readOutcome text ends marks syndrome loss) in
@@ -186,11 +189,7 @@ unfolding readOutcome
 read-returned text ends marks syndrome loss =
     answer-holds (λ o. unpackedReading (packedReading (counts o)) ≡ counts o) (readRefusal text ends marks syndrome loss) refused (readText text)
     (λ n p. read-refusal n (roomy (read-small text ends marks syndrome loss) .below n p))
-    (λ p. read-counts (readText text) (longer (readText text) (read-passes text ends marks syndrome loss p) (text-within text)))
-  where
-    longer : (o : Read) → length text ≤ textLimit → ReadWithin (length text + 2) o → ReadWithin (textLimit + 2) o
-    longer (complete X) h w = w
-    longer (refused n) h w = omega arith
+    (λ p. read-counts text (readText text) refl (read-passes text ends marks syndrome loss p) (line-below text))
 
 -- Writing: the byte count
 

@@ -37,3 +37,5 @@ pub mod RoundTrip
 pub mod Precedence
 pub mod SmallestNumber
 pub mod CallRefusals
+pub mod AnswerBounds
+pub mod ReadBounds

@@ -9,11 +9,6 @@ use Rattle.text.proofs.HoldLaws.{zeros-sized}
 use Rattle.report.proofs.Readings.{refused-reads, counts-read}
 use Rattle.report.proofs.report.Statement.{statement}
 use Rattle.report.proofs.report.Tie as tie
-use Rattle.report.proofs.report.Reads as reads
-use Rattle.report.proofs.report.Lts as lts
-use Rattle.report.proofs.key.put_sheet.Reads as put-sheet-reads
-use Rattle.report.proofs.lines.put_refusal.Reads as put-refusal-reads
-use Rattle.text.proofs.reading.read.Reads as read-reads
 
 slice-aggregate-read : tie.Need-slice-aggregate-read
 slice-aggregate-read c = search needs

@@ -1,18 +1,9 @@
 -- `report::key::put_decoded` meets its contract: decoding's refusal is number 10, and its key is that of the definition. Assumes nothing.
 use mathlib.Core.Path.{sym}
-use native.Mathlib.Omega.{arith}
-use denote.Ref.{now}
-use lib.ListN.{length}
 use borrow.Author.Needs.{needs}
-use Rattle.model.proofs.ListLaws.{length-values}
 use Rattle.report.proofs.KeyLaws.{refused-report, key-given}
 use Rattle.report.proofs.key.put_decoded.Statement.{statement}
 use Rattle.report.proofs.key.put_decoded.Tie as tie
-use Rattle.report.proofs.key.put_decoded.Reads as reads
-use Rattle.report.proofs.key.put_decoded.Lts as lts
-use Rattle.decoder.proofs.decode.Reads as decode-reads
-use Rattle.report.proofs.key.put_key.Reads as put-key-reads
-use Rattle.report.proofs.lines.put_refusal.Reads as put-refusal-reads
 
 decode-requires : tie.Need-decode-requires
 decode-requires c κs = search needs

@@ -13,12 +13,6 @@ use Rattle.report.proofs.LineLaws.{number-short, distance-short, fronts
 use Rattle.report.proofs.KeyLaws.{measured, key-short}
 use Rattle.report.proofs.key.put_key.Statement.{statement}
 use Rattle.report.proofs.key.put_key.Tie as tie
-use Rattle.report.proofs.key.put_key.Reads as reads
-use Rattle.report.proofs.key.put_key.Lts as lts
-use Rattle.distance.proofs.distance.Reads as distance-reads
-use Rattle.report.proofs.lines.put_distance.Reads as put-distance-reads
-use Rattle.text.proofs.printing.put_line.Reads as put-line-reads
-use Rattle.text.proofs.printing.put_listed.Reads as put-listed-reads
 
 put-line-requires : tie.Need-put-line-requires
 put-line-requires c κs =

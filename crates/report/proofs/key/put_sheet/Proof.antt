@@ -5,9 +5,6 @@ use lib.Seq.{length-take-le}
 use borrow.Author.Needs.{needs}
 use Rattle.report.proofs.key.put_sheet.Statement.{statement}
 use Rattle.report.proofs.key.put_sheet.Tie as tie
-use Rattle.report.proofs.key.put_sheet.Reads as reads
-use Rattle.report.proofs.key.put_sheet.Lts as lts
-use Rattle.report.proofs.key.put_decoded.Reads as put-decoded-reads
 
 array-borrow-prefix-support : tie.Need-array-borrow-prefix-support
 array-borrow-prefix-support c = search needs

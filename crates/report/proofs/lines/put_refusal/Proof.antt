@@ -8,12 +8,6 @@ use Rattle.text.proofs.PutLaws.{then, long}
 use Rattle.report.proofs.LineLaws.{refusal-bytes, refusal-short, fronts}
 use Rattle.report.proofs.lines.put_refusal.Statement.{statement}
 use Rattle.report.proofs.lines.put_refusal.Tie as tie
-use Rattle.report.proofs.lines.put_refusal.Reads as reads
-use Rattle.report.proofs.lines.put_refusal.Lts as lts
-use Rattle.model.proofs.refusal.number.Reads as number-reads
-use Rattle.model.proofs.refusal.place.Reads as place-reads
-use Rattle.text.proofs.printing.put_byte.Reads as put-byte-reads
-use Rattle.text.proofs.printing.put_field.Reads as put-field-reads
 
 number-requires : tie.Need-number-requires
 number-requires c κs = search needs

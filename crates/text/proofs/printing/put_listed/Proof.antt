@@ -1,18 +1,15 @@
 -- `text::printing::put_listed` meets its contract. The loop's invariant: so many places are gone through. Assumes nothing.
-use Prim.Native.Nat.{ℕ, _+_, _-_, _≤_}
-use mathlib.Core.Path.{_≡_, refl, sym, ap, subst, _∙_}
+use Prim.Native.Nat.{ℕ, _-_, _≤_}
+use mathlib.Core.Path.{_≡_, subst}
 use native.Mathlib.Omega.{arith}
 use borrow.Author.Needs.{needs}
 use denote.Ref.{now}
-use lib.ListN.{length, getD}
+use lib.ListN.{length}
 use Rattle.model.specs.Sums.{ones}
-use Rattle.text.specs.Printing.{Puts, listedBytes, placeBytes}
+use Rattle.text.specs.Printing.{Puts, listedBytes}
 use Rattle.text.proofs.PutLaws.{then, long, put-none, listed-more, listed-fit}
 use Rattle.text.proofs.printing.put_listed.Statement.{statement}
 use Rattle.text.proofs.printing.put_listed.Tie as tie
-use Rattle.text.proofs.printing.put_listed.Reads as reads
-use Rattle.text.proofs.printing.put_listed.Lts as lts
-use Rattle.text.proofs.printing.put_place.Reads as put-place-reads
 
 abbrev Inv-loop : tie.InvT-loop
 Inv-loop out₀ at letter bytes next₀ i₀ out next i = (i ≤ length bytes) × Puts (listedBytes letter (ones bytes) i) out₀ at next out

@@ -1,13 +1,9 @@
 -- `text::printing::put_place` meets its contract. Assumes nothing.
-use mathlib.Core.Path.{_≡_, refl, sym, ap, _∙_}
 use borrow.Author.Tests.{eq-eqb, ne-eqb}
 use Rattle.text.proofs.PutLaws.{put-none}
 use borrow.Author.Needs.{needs}
 use Rattle.text.proofs.printing.put_place.Statement.{statement}
 use Rattle.text.proofs.printing.put_place.Tie as tie
-use Rattle.text.proofs.printing.put_place.Reads as reads
-use Rattle.text.proofs.printing.put_place.Lts as lts
-use Rattle.text.proofs.printing.put_line.Reads as put-line-reads
 
 put-line-requires : tie.Need-put-line-requires
 put-line-requires c κs = rw (eq-eqb (c .before .before .before .args .byte) 1 (c .before .if1 .taken)) at (c .before .before .before .pre)

@@ -1,17 +1,14 @@
 -- `text::writing::put_edges` meets its contract. The loop's invariant: so many edges' lines are put. Assumes nothing.
 use Prim.Native.Nat.{ℕ, _+_, _*_, _-_, _≤_}
-use mathlib.Core.Path.{_≡_, refl, sym, ap, subst, _∙_}
+use mathlib.Core.Path.{_≡_, subst}
 use native.Mathlib.Omega.{arith}
 use borrow.Author.Needs.{needs}
 use denote.Ref.{now}
-use lib.ListN.{length, getD}
-use Rattle.text.specs.Printing.{Puts, edgesBytes, edgeBytes}
+use lib.ListN.{length}
+use Rattle.text.specs.Printing.{Puts, edgesBytes}
 use Rattle.text.proofs.PutLaws.{then, long, put-none, edges-more, edges-fit}
 use Rattle.text.proofs.writing.put_edges.Statement.{statement}
 use Rattle.text.proofs.writing.put_edges.Tie as tie
-use Rattle.text.proofs.writing.put_edges.Reads as reads
-use Rattle.text.proofs.writing.put_edges.Lts as lts
-use Rattle.text.proofs.printing.put_edge.Reads as put-edge-reads
 
 abbrev Inv-loop : tie.InvT-loop
 Inv-loop out₀ at ends marks next₀ e₀ out next e = (e ≤ length marks) × Puts (edgesBytes ends marks e) out₀ at next out

@@ -6,11 +6,6 @@ use Rattle.text.proofs.PutLaws.{then, long, length-sheet}
 use borrow.Author.Needs.{needs}
 use Rattle.text.proofs.writing.put_sheet.Statement.{statement}
 use Rattle.text.proofs.writing.put_sheet.Tie as tie
-use Rattle.text.proofs.writing.put_sheet.Reads as reads
-use Rattle.text.proofs.writing.put_sheet.Lts as lts
-use Rattle.text.proofs.printing.put_line.Reads as put-line-reads
-use Rattle.text.proofs.writing.put_edges.Reads as put-edges-reads
-use Rattle.text.proofs.printing.put_listed.Reads as put-listed-reads
 
 put-line-requires : tie.Need-put-line-requires
 put-line-requires c κs = omega (arith, length-sheet (sheetOf (boardOf (c .before .before .before .before .before .before .args .vertices) (now (c .before .before .before .before .before .before .args .ends)) (now (c .before .before .before .before .before .before .args .marks))) (now (c .before .before .before .before .before .before .args .syndrome)) (now (c .before .before .before .before .before .before .args .loss))), c .before .before .before .before .before .before .pre .1)

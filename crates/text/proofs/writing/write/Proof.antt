@@ -1,9 +1,8 @@
 -- `text::writing::write` meets its contract: the tests in their order, then the text copied. Assumes nothing.
-use mathlib.Core.Path.{_≡_, refl, sym, ap, _∙_}
+use mathlib.Core.Path.{_≡_, sym, ap, _∙_}
 use mathlib.Core.Bool.{true}
 use mathlib.Core.Option.{none}
 use native.Mathlib.Nat.{zero-add}
-use native.Mathlib.Omega.{arith}
 use denote.Ref.{now}
 use Rattle.model.specs.Board.{boardOf, sheetOf}
 use Rattle.board.specs.Outcome.{testOf}
@@ -13,11 +12,6 @@ use Rattle.text.proofs.PrintLaws.{text-short}
 use borrow.Author.Needs.{needs}
 use Rattle.text.proofs.writing.write.Statement.{statement}
 use Rattle.text.proofs.writing.write.Tie as tie
-use Rattle.text.proofs.writing.write.Reads as reads
-use Rattle.text.proofs.writing.write.Lts as lts
-use Rattle.board.proofs.lent.check_sheet.Reads as check-sheet-reads
-use Rattle.text.proofs.copy.copy_bytes.Reads as copy-bytes-reads
-use Rattle.text.proofs.writing.put_sheet.Reads as put-sheet-reads
 
 check-sheet-requires : tie.Need-check-sheet-requires
 check-sheet-requires c κs = search needs

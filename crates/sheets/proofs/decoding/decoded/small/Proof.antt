@@ -4,10 +4,6 @@ use lib.Seq.{length-take-le}
 use borrow.Author.Needs.{needs}
 use Rattle.sheets.proofs.decoding.decoded.small.Statement.{statement}
 use Rattle.sheets.proofs.decoding.decoded.small.Tie as tie
-use Rattle.sheets.proofs.decoding.decoded.small.Reads as reads
-use Rattle.sheets.proofs.decoding.decoded.small.Lts as lts
-use Rattle.sheets.proofs.decoding.decoded.few.Reads as few-reads
-use Rattle.sheets.proofs.decoding.decoded.show.Reads as show-reads
 
 -- src/decoding/decoded.rt:61:9
 few-requires : tie.Need-few-requires

@@ -1,20 +1,21 @@
 -- How large the values of an answer are. Assumes nothing.
 use Prim.Native.Nat.{ℕ, zero, suc, _+_, _*_, _≤_, _<_}
-use mathlib.Core.Path.{_≡_, subst}
-use mathlib.Core.Bool.{Bool, true, false, cond, _&&_}
+use mathlib.Core.Path.{_≡_}
+use mathlib.Core.Bool.{Bool, _&&_}
 use mathlib.Core.List.{List}
 use mathlib.Core.Option.{Option, none, some}
 use native.Mathlib.Nat.{le-trans}
 use native.Mathlib.Omega.{arith}
 use Rattle.model.specs.Sums.{Set, bit, ones, oddUpTo}
 use Rattle.model.specs.Board.{Board, Sheet, edges}
-use Rattle.model.specs.Winding.{winds, crossesA, crossesB, crossings, size}
+use Rattle.model.specs.Winding.{crossesA, crossesB, crossings, size}
 use Rattle.model.specs.Growth.{start, clusters, choice, grow, chosen, growFrom, grown}
 use Rattle.model.specs.Decoding.{smallestOdd, growths}
 use Rattle.model.specs.Verdict.{differs}
-use Rattle.model.specs.Distance.{lesser, with, fewestFrom, fewest}
+use Rattle.model.specs.Distance.{fewest}
 use Rattle.model.proofs.Bits.{bit-bound}
 use Rattle.model.proofs.SumLaws.{count-bound, first-found}
+use Rattle.theory.proofs.Distances.{fewest-least}
 
 -- Decoding
 
@@ -57,26 +58,7 @@ crossings-bound B D =
 
 -- The distance
 
--- none, or at most b
-abbrev AtMost : ℕ → Option ℕ → Type 0
-AtMost b none = Unit {0}
-AtMost b (some d) = d ≤ b
-
-lesser-bound : (b : ℕ) (x y : Option ℕ) → AtMost b x → AtMost b y → AtMost b (lesser x y)
-lesser-bound b none y p q = q
-lesser-bound b (some c) none p q = p
-lesser-bound b (some c) (some d) p q = omega arith
-
-from-bound : (B : Board) (k : ℕ) (D : Set) → AtMost (edges B) (fewestFrom B k D)
-unfolding fewestFrom
-from-bound B zero D = go (winds B D)
-  where
-    go : (t : Bool) → AtMost (edges B) (cond t (some (size B D)) none)
-    go true = size-bound B D
-    go false = tt
-from-bound B (suc e) D =
-    lesser-bound (edges B) (fewestFrom B e D) (fewestFrom B e (with e D)) (from-bound B e D) (from-bound B e (with e D))
-
 pub fewest-bound : (B : Board) (d : ℕ) → fewest B ≡ some d → d ≤ edges B
-unfolding fewest
-fewest-bound B d p = subst (AtMost (edges B)) p (from-bound B (edges B) (λ i. false))
+fewest-bound B d p =
+    let loop = fewest-least B d p .reached in
+    omega (arith, size-bound B (loop .loop), loop .count)
