@@ -3,7 +3,7 @@ use native.Mathlib.Omega.{arith}
 use Rattle.model.specs.Board.{Sheet, ValidSheet}
 use Rattle.parts.specs.Lent.{Lent}
 
--- a valid sheet has its ends among its vertices, and a syndrome byte for each vertex
+-- a valid sheet has its ends among its vertices, two for each edge, and a syndrome byte for each vertex
 pub sheet-lent : {X : Sheet} → ValidSheet X → Lent (X .board .vertices) (X .board .ends) (X .syndrome)
 sheet-lent w =
     record {
@@ -12,5 +12,6 @@ sheet-lent w =
         first = λ e h. w .board .first-in-range e (omega arith);
         second = λ e h. w .board .second-in-range e (omega arith);
       };
+      two-ends = omega (arith, w .board .two-ends);
       bytes = w .syndrome;
     }

@@ -1,8 +1,9 @@
 -- What the search for an odd part relies on in what is lent. Internal: no part of what a reader of a product call must believe.
 -- Assumes nothing.
 use Prim.Native.Nat.{ℕ, _+_, _*_, _≤_, _<_}
+use mathlib.Core.Path.{_≡_}
 use mathlib.Core.List.{List}
-use lib.ListN.{getD}
+use lib.ListN.{length, getD}
 use Rattle.model.specs.Board.{ValidBytes, vertexLimit}
 use Rattle.model.specs.Refusals.{edgesOf}
 
@@ -12,7 +13,8 @@ pub record Ends (n : ℕ) (ends : List ℕ) : Type 0 where
   pub first : (e : ℕ) → e < edgesOf ends → getD ends (2 * e) 0 < n
   pub second : (e : ℕ) → e < edgesOf ends → getD ends (2 * e + 1) 0 < n
 
--- and there is a syndrome byte for each vertex
+-- there are two ends for each edge, and a syndrome byte for each vertex
 pub record Lent (n : ℕ) (ends syndrome : List ℕ) : Type 0 where
   pub board : Ends n ends
+  pub two-ends : length ends ≡ 2 * edgesOf ends
   pub bytes : ValidBytes n syndrome

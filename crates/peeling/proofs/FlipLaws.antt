@@ -22,9 +22,10 @@ pub record Flipping (p : List ℕ) (v : ℕ) (odd₀ : List Bool) (w : ℕ) (odd
   pub ready : Flippable p odd w
   pub same-length : length odd ≡ length odd₀
   pub each : (z : ℕ) → at p z ≢ z → oddBelow odd z ⊕ under p z w ≡ oddBelow odd₀ z ⊕ under p z v
+  pub roots : (z : ℕ) → at p z ≡ z → oddBelow odd z ≡ oddBelow odd₀ z
 
 pub flipping-start : {p : List ℕ} {odd : List Bool} {v : ℕ} → Flippable p odd v → Flipping p v odd v odd
-flipping-start f = record { ready = f; same-length = refl; each = λ z q. refl }
+flipping-start f = record { ready = f; same-length = refl; each = λ z q. refl; roots = λ z q. refl }
 
 -- an entry that flips
 entry : (l : List Bool) (w z : ℕ) → w < length l → oddBelow (set l w (not (oddBelow l w))) z ≡ oddBelow l z ⊕ eqb w z
@@ -48,6 +49,7 @@ flipping-up {p} {v} {odd₀} {odd} {w} f q =
           ∙ xor-assoc (oddBelow odd z) (eqb w z) (under p z (at p w))
           ∙ ap (λ b. oddBelow odd z ⊕ b) (sym (under-parent (i .climbs) z w (i .vertex) q))
           ∙ f .each z top;
+      roots = λ z top. getD-set-other odd w z _ false (λ e. q (sym (ap (at p) e) ∙ top ∙ e)) ∙ f .roots z top;
     }
   where
     i : InTrees p w
@@ -61,6 +63,7 @@ flipping-done {p} {v} {odd₀} {odd} {w} f top =
           sym (xor-false (oddBelow odd z))
           ∙ ap (λ b. oddBelow odd z ⊕ b) (sym (under-root p z w top ∙ ne-eqb w z (λ e. q (sym (ap (at p) e) ∙ top ∙ e))))
           ∙ f .each z q;
+      roots = f .roots;
     }
 
 -- any vertex of the trees
@@ -73,7 +76,7 @@ still-flippable a q = record { size = a .size; climbs = a .climbs; room = rw q (
 
 pub none-flipped : (p : List ℕ) (S : Set) (odd : List Bool) → AllFlipped p 0 S odd odd
 unfolding oddUpTo
-none-flipped p S odd = record { same-length = refl; each = λ z q. sym (xor-false (oddBelow odd z)) }
+none-flipped p S odd = record { same-length = refl; each = λ z q. sym (xor-false (oddBelow odd z)); roots = λ z q. refl }
 
 -- the next vertex is in S
 pub flipped-next : {p : List ℕ} {n : ℕ} {S : Set} {odd₀ odd odd′ : List Bool} → AllFlipped p n S odd₀ odd → S n ≡ true
@@ -88,6 +91,7 @@ flipped-next {p} {n} {S} {odd₀} {odd} {odd′} a q f =
           ∙ ap (λ b. b ⊕ under p z n) (a .each z top)
           ∙ xor-assoc (oddBelow odd₀ z) (oddUpTo n (λ u. S u && under p z u)) (under p z n)
           ∙ ap (λ b. oddBelow odd₀ z ⊕ (oddUpTo n (λ u. S u && under p z u) ⊕ (b && under p z n))) (sym q);
+      roots = λ z top. f .roots z top ∙ a .roots z top;
     })
 
 -- the next vertex is not in S
@@ -101,4 +105,5 @@ flipped-passed {p} {n} {S} {odd₀} {odd} a q =
       each = λ z top.
           a .each z top
           ∙ ap (λ b. oddBelow odd₀ z ⊕ b) (sym (ap (λ b. oddUpTo n (λ u. S u && under p z u) ⊕ (b && under p z n)) q ∙ xor-false _));
+      roots = a .roots;
     })

@@ -5,7 +5,7 @@ ghost use lib.ListN.{length};
 ghost use Rattle.model.specs.Sums.{ones};
 ghost use Rattle.peeling.specs.Flips.{Flippable, Flipped, AllFlippable, AllFlipped};
 
-// Vertex v flips: every vertex on the way from v up to its root has another parity below it. Nobody asks that of a root.
+// Vertex v flips: every vertex on the way from v up to its root has another parity below it. The entry of a root stays.
 pub fn flip(parent: &[u16; VERTICES], odd: &mut [bool; VERTICES], v: Vertex)
     requires { ⌜ Flippable (now parent) (now odd) (v .0) ⌝ }
     ensures { λ r. ⌜ Flipped (now (parent .entry)) (v .0) (now (odd .entry)) (now (odd .exit)) ⌝ }
