@@ -45,14 +45,13 @@ fn put_dash(out: &mut [u8], at: usize) -> usize
     put_byte(out, end, NEWLINE)
 }
 
-// Puts the line of a distance. That of a valid board, which alone is asked for, is no refusal.
+// Puts the line of a distance. The board is valid, so that what is not a distance is none.
 pub(crate) fn put_distance(out: &mut [u8], at: usize, distance: Distance) -> usize
     requires { ⌜ at + length (distanceLine (fewestIn distance)) ≤ length (now out) ⌝ }
     ensures { λ r. ⌜ Puts (distanceLine (fewestIn distance)) (now (out .entry)) at r (now (out .exit)) ⌝ }
 {
-    match distance {
-        Distance::Fewest(fewest) => put_line(out, at, LETTER_D, fewest),
-        Distance::Nothing => put_dash(out, at),
-        Distance::Refused(_) => put_dash(out, at),
-    }
+    let Distance::Fewest(fewest) = distance else {
+        return put_dash(out, at);
+    };
+    put_line(out, at, LETTER_D, fewest)
 }
