@@ -21,7 +21,8 @@ const LETTER_N: u8 = 78;
 
 const DASH: u8 = 45;
 
-// Puts a refusal's line at the begin: number, place.
+// Puts a refusal's line at the start: number, place. It has at most 27 bytes: the letter, two tabs, 3 digits of a number, 20 of a place and
+// the newline.
 pub(crate) fn put_refusal(out: &mut [u8], refusal: Refusal) -> usize
     requires { ⌜ 27 ≤ length (now out) ⌝ }
     ensures { λ r. ⌜ InFront (refusalLine refusal) (now (out .entry)) r (now (out .exit)) ⌝ }
