@@ -1,5 +1,5 @@
 -- What decoding and the distance answer of a valid sheet, as its report. Assumes nothing.
-use Prim.Native.Nat.{ℕ, _*_, _≤_}
+use Prim.Native.Nat.{ℕ, _+_, _*_, _≤_}
 use mathlib.Core.Path.{_≡_, refl, sym, ap, ap₂, _∙_}
 use mathlib.Core.List.{List, _++_}
 use mathlib.Core.Option.{Option, none, some}
@@ -41,18 +41,26 @@ measured B shown r w long p = ap fewestIn (p ∙ no-refusal B shown w long) ∙ 
     go none = refl
     go (some d) = refl
 
--- no key's lines are longer than the longest report
-pub key-short : (B : Board) (growths : ℕ) (correction shown out : List ℕ) → Keyed B growths correction shown out
-    → length (keyLines B growths correction) ≤ length out
-key-short B growths correction shown out w =
-    let limit = w .board .edge-limit in
-    let first = number-short letterG growths (omega (arith, w .few-growths, limit)) in
-    let second = listed-short letterC (ones correction) (length correction) (omega (arith, w .correction-long, limit)) in
-    let third = distance-short B (w .board) in
-    let lines = numberBytes letterG growths ++ listedBytes letterC (ones correction) (length correction) in
-    let all = length-append lines (distanceLine (fewest B)) in
-    let front = length-append (numberBytes letterG growths) (listedBytes letterC (ones correction) (length correction)) in
-    omega (arith, all, front, w .correction-long, limit, w .room .long)
+-- there is room for the lines of a key, one after the other, and so for all of them
+module _ (B : Board) (growths : ℕ) (correction shown out : List ℕ) (w : Keyed B growths correction shown out) where
+  abbrev lines : List ℕ
+  lines = listedBytes letterC (ones correction) (length correction)
+
+  pub key-room : length (numberBytes letterG growths) + length lines + length (distanceLine (fewest B)) ≤ length out
+  key-room =
+      let limit = w .board .edge-limit in
+      let first = number-short letterG growths (omega (arith, w .few-growths, limit)) in
+      let second = listed-short letterC (ones correction) (length correction) (omega (arith, w .correction-long, limit)) in
+      omega (arith, first, second, distance-short B (w .board), w .correction-long, limit, w .room .long)
+
+  pub key-short : length (keyLines B growths correction) ≤ length out
+  key-short =
+      omega (
+        arith,
+        key-room,
+        length-append (numberBytes letterG growths ++ lines) (distanceLine (fewest B)),
+        length-append (numberBytes letterG growths) lines,
+      )
 
 -- The report where some part is odd, and where none is
 

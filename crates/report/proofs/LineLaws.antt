@@ -18,12 +18,13 @@ use Rattle.model.specs.Report.{letterC, letterD, letterN, dash, reportLine, edg
 use Rattle.theory.proofs.AnswerBounds.{fewest-bound}
 use Rattle.text.specs.Printing.{Puts, fieldBytes, numberBytes, placeBytes, listedBytes}
 use Rattle.text.proofs.DecimalLaws.{nines, digits}
+use Rattle.text.proofs.PrintLaws.{one-number}
 use Rattle.text.proofs.PutLaws.{length-number}
 
 -- a line of one number
 pub line-bytes : (letter n : ℕ) → reportLine letter (n ∷ []) ≡ numberBytes letter n
-unfolding reportLine fieldsOf
-line-bytes letter n = ap (λ l. letter ∷ tab ∷ (l ++ (newline ∷ []))) (append-nil (decimal n))
+unfolding reportLine
+line-bytes letter n = rw (one-number n)
 
 -- a refusal's line
 pub refusal-bytes : (n : Refusal) → refusalLine n ≡ letterN ∷ [] ++ fieldBytes (numberOf n) ++ fieldBytes (placeOf n) ++ newline ∷ []

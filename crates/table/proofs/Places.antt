@@ -15,7 +15,7 @@ use Rattle.model.specs.Refusals.{Test, sized, edgesOf, firstFailure, tested, si
 use Rattle.model.specs.Text.{textOf}
 use Rattle.model.specs.TextOutcomes.{textLimit, textRule, readRefusal, writeRefusal}
 use Rattle.model.proofs.Places.{PlaceBelow, wider, unless-below, at-below, first-below, else-below, row-below}
-use Rattle.theory.proofs.AnswerBounds.{odd-vertex}
+use Rattle.theory.proofs.SmallestOdd.{smallest-odd-exactly}
 use Rattle.board.specs.Rules.{outside, equalEnds, above, countTests, edgeTests, byteTests, boardRefusal, sheetRefusal}
 use Rattle.board.proofs.Validity.{board-tests, counts-allow, sheet-tests, board-allows}
 use Rattle.board.proofs.Calls.{decode-tests, verdict-tests, sheet-allows, distance-tests}
@@ -95,7 +95,7 @@ verdict-small X handed =
 pub odd-small : (X : Sheet) → X .board .vertices ≤ vertexLimit → Small (oddPartTest X)
 odd-small X h =
     at-below (smallestOdd (X .board) (ones (X .syndrome))) noneAt
-    (λ v p. omega (arith, odd-vertex (X .board) (ones (X .syndrome)) v p))
+    (λ v p. omega (arith, smallest-odd-exactly (X .board) (ones (X .syndrome)) v .0 p .less))
 
 pub distance-small : (B : Board) (shown : List ℕ) → Small (distanceRefusal B shown)
 distance-small B shown = rw (distance-tests B shown) (board-small B _)

@@ -1,16 +1,15 @@
 -- A caller who takes a returned number apart has the call's answer: nothing of any answer is cut off. Assumes nothing.
 use Prim.Native.Nat.{ℕ, _+_, _*_, _^_, _≤_, _<_}
-use mathlib.Core.Path.{_≡_, refl, sym, _∙_}
+use mathlib.Core.Path.{_≡_, refl}
 use mathlib.Core.Bool.{Bool, true, false, cond, _&&_}
 use mathlib.Core.List.{List, [], _∷_}
 use mathlib.Core.Option.{Option, none, some}
-use native.Mathlib.Nat.{mul-le-mul}
 use native.Mathlib.Omega.{arith}
 use borrow.Author.Tests.{leb-true}
 use lib.ListN.{length}
 use lib.Dec.{eqb, leb}
 use Rattle.model.specs.declared.refusal.Refusal.{Refusal}
-use Rattle.model.specs.declared.refusal.Refusal.the-variants.{TorusSide, TextLength}
+use Rattle.model.specs.declared.refusal.Refusal.the-variants.{TorusSide}
 use Rattle.model.specs.declared.answers.Decoded.the-variants as decoded
 use Rattle.model.specs.declared.answers.Verdict.the-variants as verdict
 use Rattle.model.specs.declared.answers.Distance.the-variants as distance
@@ -23,10 +22,10 @@ use Rattle.model.specs.Winding.{crossings, together, size}
 use Rattle.model.specs.Decoding.{growths, corrected}
 use Rattle.model.specs.Verdict.{differs, judgedAt, judged}
 use Rattle.model.specs.Distance.{fewest}
-use Rattle.model.specs.Refusals.{placeOf, Test, firstFailure, sized, tested, sideRule, lengthRule, oddPartTest, decodeRefusal, verdictRefusal, distanceRefusal, torusRefusal}
+use Rattle.model.specs.Refusals.{placeOf, Test, sized, tested, sideRule, lengthRule, oddPartTest, decodeRefusal, verdictRefusal, distanceRefusal, torusRefusal}
 use Rattle.model.specs.Outcomes.{answer, keyOrNone, decodeAnswer, judgedOrNone, verdictAnswer, distanceOf, distanceAnswer, torusAnswer}
 use Rattle.model.specs.Text.{Read, complete, refused, textOf, readText}
-use Rattle.model.specs.TextOutcomes.{textLimit, textRule, readRefusal, readOutcome, counts, writeRefusal, writeAnswer}
+use Rattle.model.specs.TextOutcomes.{textLimit, readRefusal, readOutcome, counts, writeRefusal, writeAnswer}
 use Rattle.model.specs.Packing.{packedDecoded, packedVerdict, packedDistance, packedBuilt, packedReading, packedWritten, unpackedDecoded, verdictWith, unpackedVerdict, distanceWith, unpackedDistance, unpackedBuilt, unpackedReading, unpackedWritten}
 use Rattle.model.proofs.Packing.{unpacked-values, unpacked-refusal}
 use Rattle.model.proofs.Places.{PlaceBelow, answer-holds}
@@ -34,12 +33,11 @@ use Rattle.theory.proofs.AnswerBounds.{growths-bound, size-bound, differs-bound
 use Rattle.theory.proofs.ReadBounds.{LineBelow, line-below}
 use Rattle.theory.proofs.RoundTrip.{written-read}
 use Rattle.model.proofs.Xor.{and-right}
-use Rattle.board.specs.Rules.{sheetRefusal}
-use Rattle.board.proofs.Rows.{neither-fails, each-passes}
+use Rattle.board.proofs.Rows.{each-passes}
 use Rattle.board.proofs.Passing.{unless-passes}
 use Rattle.board.proofs.Calls.{decode-passes, verdict-passes, distance-passes}
-use Rattle.text.proofs.ReadOutcome.{fit}
-use Rattle.text.proofs.WriteOutcome.{textTests, write-tests}
+use Rattle.text.proofs.TextCalls.{read-within, write-passed}
+use Rattle.torus.proofs.Numbering.{square-limit}
 use Rattle.table.proofs.Places.{roomy, decode-small, verdict-small, odd-small, distance-small, torus-side, read-small, write-small}
 
 -- An answer comes back where the refusals of its test and what follows where it passes do.
@@ -157,20 +155,13 @@ torus-returned side ends marks h =
     back packedBuilt unpackedBuilt (torusRefusal side ends marks) torus-refusal (torus-side side ends marks h)
     (λ p.
     let few = torus-passes side ends marks p in
-    torus-vertices (side * side) (omega (arith, mul-le-mul few few)))
+    torus-vertices (side * side) (omega (arith, square-limit side few)))
 
 -- Reading: both counts
 
 read-refusal : (n : Refusal) → placeOf n < 2 ^ 56 → unpackedReading (packedReading (reading.Refused n)) ≡ reading.Refused n
 unfolding unpackedReading
 read-refusal n h = unpacked-refusal reading.Refused reading.Counts n h
-
--- the text passes its test
-read-passes : (text ends marks syndrome loss : List ℕ) → readRefusal text ends marks syndrome loss ≡ none → length text ≤ textLimit
-unfolding readRefusal
-read-passes text ends marks syndrome loss p =
-    let e = each-passes (tested (lengthRule (fit ends marks syndrome loss)) ∷ tested (textRule text) ∷ []) p in
-    leb-true (length text) textLimit (unless-passes (leb (length text) textLimit) TextLength (e .1 .0))
 
 read-counts : (text : List ℕ) (o : Read) → readText text ≡ o → length text ≤ textLimit → LineBelow (length text + 2) o
     → unpackedReading (packedReading (counts o)) ≡ counts o
@@ -189,7 +180,7 @@ unfolding readOutcome
 read-returned text ends marks syndrome loss =
     answer-holds (λ o. unpackedReading (packedReading (counts o)) ≡ counts o) (readRefusal text ends marks syndrome loss) refused (readText text)
     (λ n p. read-refusal n (roomy (read-small text ends marks syndrome loss) .below n p))
-    (λ p. read-counts text (readText text) refl (read-passes text ends marks syndrome loss p) (line-below text))
+    (λ p. read-counts text (readText text) refl (read-within text ends marks syndrome loss p) (line-below text))
 
 -- Writing: the byte count
 
@@ -201,15 +192,8 @@ write-bytes : (n : ℕ) → n < 2 ^ 32 → unpackedWritten (packedWritten (writt
 unfolding unpackedWritten
 write-bytes n h = unpacked-values written.Refused (λ bytes rest. written.Bytes bytes) n 0 h (omega arith)
 
--- the text passes its test
-write-passes : (X : Sheet) (buffer : List ℕ) → writeRefusal X buffer ≡ none → length (textOf X) ≤ textLimit
-write-passes X buffer p =
-    let t = neither-fails (sheetRefusal X true) (firstFailure (textTests X buffer)) (sym (write-tests X buffer) ∙ p) in
-    let e = each-passes (textTests X buffer) (t .1) in
-    leb-true (length (textOf X)) textLimit (unless-passes (leb (length (textOf X)) textLimit) TextLength (e .0))
-
 pub write-returned : (X : Sheet) (buffer : List ℕ) → unpackedWritten (packedWritten (writeAnswer X buffer)) ≡ writeAnswer X buffer
 unfolding writeAnswer
 write-returned X buffer =
     back packedWritten unpackedWritten (writeRefusal X buffer) write-refusal (roomy (write-small X buffer))
-    (λ p. write-bytes (length (textOf X)) (omega (arith, write-passes X buffer p)))
+    (λ p. write-bytes (length (textOf X)) (omega (arith, write-passed X buffer p .within)))

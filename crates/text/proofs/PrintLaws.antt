@@ -20,7 +20,7 @@ printed-append [] ys = refl
 printed-append (x ∷ xs) ys = rw (printed-append xs ys) (sym (append-assoc (bytesOf x) _ (printed ys)))
 
 -- one line
-one-number : (n : ℕ) → fieldsOf (n ∷ []) ≡ tab ∷ decimal n
+pub one-number : (n : ℕ) → fieldsOf (n ∷ []) ≡ tab ∷ decimal n
 unfolding fieldsOf
 one-number n = ap (λ l. tab ∷ l) (append-nil (decimal n))
 

@@ -55,12 +55,12 @@ bytes-or-refused : {A : Type 0} {n : ℕ} {f : Refusal} → written.Bytes n ≡ 
 bytes-or-refused p = zero-one (cc)
 
 -- what passes every test of the writer
-record Passed (X : Sheet) (buffer : List ℕ) : Type 0 where
-  valid : ValidSheet X
-  within : length (textOf X) ≤ textLimit
-  room : length (textOf X) ≤ length buffer
+pub record Passed (X : Sheet) (buffer : List ℕ) : Type 0 where
+  pub valid : ValidSheet X
+  pub within : length (textOf X) ≤ textLimit
+  pub room : length (textOf X) ≤ length buffer
 
-write-passed : (X : Sheet) (buffer : List ℕ) → writeRefusal X buffer ≡ none → Passed X buffer
+pub write-passed : (X : Sheet) (buffer : List ℕ) → writeRefusal X buffer ≡ none → Passed X buffer
 write-passed X buffer p =
     let t = neither-fails (sheetRefusal X true) (firstFailure (textTests X buffer)) (sym (write-tests X buffer) ∙ p) in
     let e = each-passes (textTests X buffer) (t .1) in
@@ -183,7 +183,7 @@ record ReadSheet (text ends marks syndrome loss : List ℕ) : Type 0 where
 counts-or-refused : {A : Type 0} {n m : ℕ} {f : Refusal} → reading.Counts n m ≡ reading.Refused f → A
 counts-or-refused p = zero-one (cc)
 
-read-within : (text ends marks syndrome loss : List ℕ) → readRefusal text ends marks syndrome loss ≡ none → length text ≤ textLimit
+pub read-within : (text ends marks syndrome loss : List ℕ) → readRefusal text ends marks syndrome loss ≡ none → length text ≤ textLimit
 unfolding readRefusal
 read-within text ends marks syndrome loss p =
     let e = each-passes (map tested (lengthRule (fit ends marks syndrome loss) ∷ textRule text ∷ [])) p in

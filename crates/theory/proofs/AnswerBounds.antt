@@ -10,7 +10,7 @@ use Rattle.model.specs.Sums.{Set, bit, ones, oddUpTo}
 use Rattle.model.specs.Board.{Board, Sheet, edges}
 use Rattle.model.specs.Winding.{crossesA, crossesB, crossings, size}
 use Rattle.model.specs.Growth.{start, clusters, choice, grow, chosen, growFrom, grown}
-use Rattle.model.specs.Decoding.{smallestOdd, growths}
+use Rattle.model.specs.Decoding.{growths}
 use Rattle.model.specs.Verdict.{differs}
 use Rattle.model.specs.Distance.{fewest}
 use Rattle.model.proofs.Bits.{bit-bound}
@@ -36,11 +36,6 @@ growths-bound X = le-trans (run-bound (X .board) (ones (X .syndrome)) _ (start (
 
 pub size-bound : (B : Board) (D : Set) → size B D ≤ edges B
 size-bound B D = count-bound (edges B) D
-
--- the vertex of number 10
-pub odd-vertex : (B : Board) (S : Set) (v : ℕ) → smallestOdd B S ≡ some v → v < B .vertices
-unfolding smallestOdd
-odd-vertex B S v p = first-found (B .vertices) _ v p .less
 
 -- The verdict
 

@@ -35,3 +35,14 @@ pub fn breaking() -> Vec<Sheet> {
     keep(|sheet| sheet.loss = vec![0, 1, 1, 0]);
     sheets
 }
+
+/// The names of those that decoding and the verdict refuse alike, in order.
+pub const ORDER: [&str; 7] = [
+    "1 before 2",
+    "2 before 3",
+    "3 before 4",
+    "4 before 5",
+    "5 before 6",
+    "6 before 7",
+    "7 before 8",
+];

@@ -1,6 +1,6 @@
 //! The lines of the sheets that the program decodes.
 
-use crate::changed::{breaking, changed, of_vertices};
+use crate::changed::{ORDER, breaking, changed, of_vertices};
 use reference::Refusal;
 use reference::board::{Board, Sheet};
 use reference::decoding::decode_into;
@@ -155,19 +155,9 @@ fn places() -> Vec<String> {
 }
 
 fn order() -> Vec<String> {
-    let names = [
-        "1 before 2",
-        "2 before 3",
-        "3 before 4",
-        "4 before 5",
-        "5 before 6",
-        "6 before 7",
-        "7 before 8",
-        "8 before 10",
-        "10",
-    ];
+    let names = ORDER.iter().chain(&["8 before 10", "10"]);
     let sheets = breaking();
-    names.iter().zip(&sheets).map(|(name, sheet)| decoded(name, sheet)).collect()
+    names.zip(&sheets).map(|(name, sheet)| decoded(name, sheet)).collect()
 }
 
 pub fn lines() -> Vec<String> {

@@ -1,6 +1,6 @@
 //! The lines of the sheets with a handed-in set that the program judges.
 
-use crate::changed::{breaking, changed, of_vertices};
+use crate::changed::{ORDER, breaking, changed, of_vertices};
 use reference::Refusal;
 use reference::board::{Board, Sheet, set_of};
 use reference::generators::{path, ring};
@@ -145,20 +145,10 @@ fn places() -> Vec<String> {
 }
 
 fn order() -> Vec<String> {
-    let names = [
-        "1 before 2",
-        "2 before 3",
-        "3 before 4",
-        "4 before 5",
-        "5 before 6",
-        "6 before 7",
-        "7 before 8",
-        "8 before 9",
-        "9 before 10",
-    ];
+    let names = ORDER.iter().chain(&["8 before 9", "9 before 10"]);
     let mut sheets = breaking();
     let mut lines: Vec<_> =
-        names.iter().zip(&sheets).map(|(name, sheet)| judged(name, sheet, &[0, 0, 2, 3])).collect();
+        names.zip(&sheets).map(|(name, sheet)| judged(name, sheet, &[0, 0, 2, 3])).collect();
     let mut sheet = sheets.pop().expect("the sheet that breaks only 10");
     lines.push(judged("10 before off", &sheet, &[0; 4]));
     sheet.syndrome = vec![0, 1, 0, 1, 0];
