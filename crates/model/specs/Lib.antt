@@ -16,6 +16,7 @@ pub mod Precedence
 pub mod Outcomes
 pub mod MarkedSheets
 pub mod Text
+pub mod LineNumbers
 pub mod TextOutcomes
 pub mod Report
 pub mod Packing
