@@ -13,11 +13,12 @@ use Rattle.model.specs.Text.{Line, newline, tab, letterE, number, numbers, line
 use Rattle.theory.proofs.TextLines.{made}
 use Rattle.model.proofs.Contradiction.{zero-one}
 use Rattle.text.specs.declared.field.Field.the-variants as field
-use Rattle.text.specs.declared.line.LineRead.{LineRead}
+use Rattle.text.specs.declared.line.Parsed.{Parsed}
+use Rattle.text.specs.declared.line.Parsed.the-variants as parsed
 use Rattle.text.specs.declared.line.LineRead.the-variants as lineread
 use Rattle.text.specs.Pieces.{upTo}
 use Rattle.text.specs.Fields.{limited, asField, fieldRead}
-use Rattle.text.specs.Lines.{asRead, small, limitedLine, lineRead, smallNumbers, fieldsRead, numberRead, lineReadAt}
+use Rattle.text.specs.Lines.{asParsed, small, limitedLine, lineParsed, smallNumbers, fieldsParsed, numberParsed, asRead, lineReadAt}
 use Rattle.text.proofs.PieceLaws.{Parted, parted, pieces-at, one-piece-at, take-upTo}
 
 -- where every field is a small number, the numbers are small, and the reverse
@@ -41,10 +42,10 @@ small-fields (f ∷ fs) = go (number f) (numbers fs) (small-fields fs)
     go (some n) (some ns) p = rw p (both n ns (leb n edgeLimit) (small ns))
 
 -- a line of small numbers, by its fields
-pub by-fields : (letter next : ℕ) (fs : List (List ℕ)) → lineRead (andThen (numbers fs) (lineOf letter)) next ≡ fieldsRead letter next fs
-unfolding fieldsRead
-by-fields letter next fs =
-    ap (λ o. asRead o next) (go (numbers fs) ∙ sym (ap (λ o. andThen o (lineOf letter)) (small-fields fs)))
+pub by-fields : (letter : ℕ) (fs : List (List ℕ)) → lineParsed (andThen (numbers fs) (lineOf letter)) ≡ fieldsParsed letter fs
+unfolding fieldsParsed
+by-fields letter fs =
+    ap asParsed (go (numbers fs) ∙ sym (ap (λ o. andThen o (lineOf letter)) (small-fields fs)))
   where
     cut : (ns : List ℕ) (o : Option Line) → lineOf letter ns ≡ o → limitedLine o ≡ andThen (cond (small ns) (some ns) none) (lineOf letter)
     cut ns none p = nothing (small ns)
@@ -127,93 +128,92 @@ two-fields letter n l other = rw (parted tab l .are) (go (limited (number (upTo 
 
 -- A whole line
 
-module _ (next : ℕ) where
-  pub too-short : (l : List ℕ) → length l < 2 → lineRead (lineFrom l) next ≡ lineread.Malformed
-  unfolding lineFrom fromFields partedBy numbers
-  too-short [] h = refl
-  too-short (a ∷ []) h = go (eqb a tab)
-    where
-      go : (t : Bool) → lineRead (fromFields (cond t ([] ∷ [] ∷ []) ((a ∷ []) ∷ []))) next ≡ lineread.Malformed
-      go true = refl
-      go false = refl
-  too-short (a ∷ b ∷ l) h = absurd (no-room h)
-    where
-      no-room : suc (suc (length l)) < 2 → ⊥
-      no-room h = omega arith
+pub too-short : (l : List ℕ) → length l < 2 → lineParsed (lineFrom l) ≡ parsed.Malformed
+unfolding lineFrom fromFields partedBy numbers
+too-short [] h = refl
+too-short (a ∷ []) h = go (eqb a tab)
+  where
+    go : (t : Bool) → lineParsed (fromFields (cond t ([] ∷ [] ∷ []) ((a ∷ []) ∷ []))) ≡ parsed.Malformed
+    go true = refl
+    go false = refl
+too-short (a ∷ b ∷ l) h = absurd (no-room h)
+  where
+    no-room : suc (suc (length l)) < 2 → ⊥
+    no-room h = omega arith
 
-  pub no-tab : (l : List ℕ) → 2 ≤ length l → (getD l 1 0 ≡ tab → ⊥) → lineRead (lineFrom l) next ≡ lineread.Malformed
-  unfolding lineFrom fromFields partedBy
-  no-tab [] h q = absurd (no-line h)
-    where
-      no-line : 2 ≤ zero → ⊥
-      no-line h = omega arith
-  no-tab (a ∷ []) h q = absurd (no-room h)
-    where
-      no-room : 2 ≤ suc zero → ⊥
-      no-room h = omega arith
-  no-tab (a ∷ b ∷ l) h q = rw (ne-eqb b tab q) (go (eqb a tab) (parted tab l))
-    where
-      go : (t : Bool) → Parted tab l → lineRead (fromFields (cond t ([] ∷ inFront b (partedBy tab l)) (inFront a (inFront b (partedBy tab l))))) next ≡ lineread.Malformed
-      go true w = refl
-      go false w = rw (w .are)
+pub no-tab : (l : List ℕ) → 2 ≤ length l → (getD l 1 0 ≡ tab → ⊥) → lineParsed (lineFrom l) ≡ parsed.Malformed
+unfolding lineFrom fromFields partedBy
+no-tab [] h q = absurd (no-line h)
+  where
+    no-line : 2 ≤ zero → ⊥
+    no-line h = omega arith
+no-tab (a ∷ []) h q = absurd (no-room h)
+  where
+    no-room : 2 ≤ suc zero → ⊥
+    no-room h = omega arith
+no-tab (a ∷ b ∷ l) h q = rw (ne-eqb b tab q) (go (eqb a tab) (parted tab l))
+  where
+    go : (t : Bool) → Parted tab l → lineParsed (fromFields (cond t ([] ∷ inFront b (partedBy tab l)) (inFront a (inFront b (partedBy tab l))))) ≡ parsed.Malformed
+    go true w = refl
+    go false w = rw (w .are)
 
-  pub tabbed : (l : List ℕ) → 2 ≤ length l → getD l 1 0 ≡ tab → lineRead (lineFrom l) next ≡ cond (eqb (getD l 0 0) tab) lineread.Malformed (fieldsRead (getD l 0 0) next (partedBy tab (drop 2 l)))
-  unfolding lineFrom fromFields partedBy
-  tabbed [] h q = absurd (no-line h)
-    where
-      no-line : 2 ≤ zero → ⊥
-      no-line h = omega arith
-  tabbed (a ∷ []) h q = absurd (no-room h)
-    where
-      no-room : 2 ≤ suc zero → ⊥
-      no-room h = omega arith
-  tabbed (a ∷ b ∷ l) h q = rw (eq-eqb b tab q) (go (eqb a tab))
-    where
-      go : (t : Bool) → lineRead (fromFields (cond t ([] ∷ [] ∷ partedBy tab l) ((a ∷ []) ∷ partedBy tab l))) next ≡ cond t lineread.Malformed (fieldsRead a next (partedBy tab l))
-      go true = refl
-      go false = by-fields a next (partedBy tab l)
+pub tabbed : (l : List ℕ) → 2 ≤ length l → getD l 1 0 ≡ tab → lineParsed (lineFrom l) ≡ cond (eqb (getD l 0 0) tab) parsed.Malformed (fieldsParsed (getD l 0 0) (partedBy tab (drop 2 l)))
+unfolding lineFrom fromFields partedBy
+tabbed [] h q = absurd (no-line h)
+  where
+    no-line : 2 ≤ zero → ⊥
+    no-line h = omega arith
+tabbed (a ∷ []) h q = absurd (no-room h)
+  where
+    no-room : 2 ≤ suc zero → ⊥
+    no-room h = omega arith
+tabbed (a ∷ b ∷ l) h q = rw (eq-eqb b tab q) (go (eqb a tab))
+  where
+    go : (t : Bool) → lineParsed (fromFields (cond t ([] ∷ [] ∷ partedBy tab l) ((a ∷ []) ∷ partedBy tab l))) ≡ cond t parsed.Malformed (fieldsParsed a (partedBy tab l))
+    go true = refl
+    go false = by-fields a (partedBy tab l)
 
 -- .. by the answer about its first field
 
-module _ (next : ℕ) (l : List ℕ) where
-  pub edge-letter : getD l 0 0 ≡ letterE → cond (eqb (getD l 0 0) tab) lineread.Malformed (fieldsRead (getD l 0 0) next (partedBy tab (drop 2 l))) ≡ fieldsRead letterE next (partedBy tab (drop 2 l))
+module _ (l : List ℕ) where
+  pub edge-letter : getD l 0 0 ≡ letterE → cond (eqb (getD l 0 0) tab) parsed.Malformed (fieldsParsed (getD l 0 0) (partedBy tab (drop 2 l))) ≡ fieldsParsed letterE (partedBy tab (drop 2 l))
   edge-letter p = rw p
 
   -- whatever the letter is
-  either : (r : LineRead) → r ≡ lineread.Malformed → cond (eqb (getD l 0 0) tab) lineread.Malformed r ≡ lineread.Malformed
+  either : (r : Parsed) → r ≡ parsed.Malformed → cond (eqb (getD l 0 0) tab) parsed.Malformed r ≡ parsed.Malformed
   either r p = go (eqb (getD l 0 0) tab)
     where
-      go : (t : Bool) → cond t lineread.Malformed r ≡ lineread.Malformed
+      go : (t : Bool) → cond t parsed.Malformed r ≡ parsed.Malformed
       go true = refl
       go false = p
 
-  pub first-bad : fieldRead 2 (upTo tab (drop 2 l)) ≡ field.Malformed → cond (eqb (getD l 0 0) tab) lineread.Malformed (fieldsRead (getD l 0 0) next (partedBy tab (drop 2 l))) ≡ lineread.Malformed
-  unfolding fieldsRead
-  first-bad p = either (fieldsRead (getD l 0 0) next (partedBy tab (drop 2 l))) (rw (bad-field l 2 p))
+  pub first-bad : fieldRead 2 (upTo tab (drop 2 l)) ≡ field.Malformed → cond (eqb (getD l 0 0) tab) parsed.Malformed (fieldsParsed (getD l 0 0) (partedBy tab (drop 2 l))) ≡ parsed.Malformed
+  unfolding fieldsParsed
+  first-bad p = either (fieldsParsed (getD l 0 0) (partedBy tab (drop 2 l))) (rw (bad-field l 2 p))
 
-  pub second-field : (n j : ℕ) → fieldRead 2 (upTo tab (drop 2 l)) ≡ field.Number n j → j < length l → (getD l 0 0 ≡ letterE → ⊥) → cond (eqb (getD l 0 0) tab) lineread.Malformed (fieldsRead (getD l 0 0) next (partedBy tab (drop 2 l))) ≡ lineread.Malformed
-  unfolding fieldsRead
+  pub second-field : (n j : ℕ) → fieldRead 2 (upTo tab (drop 2 l)) ≡ field.Number n j → j < length l → (getD l 0 0 ≡ letterE → ⊥) → cond (eqb (getD l 0 0) tab) parsed.Malformed (fieldsParsed (getD l 0 0) (partedBy tab (drop 2 l))) ≡ parsed.Malformed
+  unfolding fieldsParsed
   second-field n j p h other =
-      either (fieldsRead (getD l 0 0) next (partedBy tab (drop 2 l)))
-      (rw (field-before l 2 n j p h) (ap (λ o. asRead o next) (two-fields (getD l 0 0) n (drop (j + 1) l) other)))
+      either (fieldsParsed (getD l 0 0) (partedBy tab (drop 2 l)))
+      (rw (field-before l 2 n j p h) (ap asParsed (two-fields (getD l 0 0) n (drop (j + 1) l) other)))
 
-  pub only-field : (n j : ℕ) → fieldRead 2 (upTo tab (drop 2 l)) ≡ field.Number n j → length l ≤ j → cond (eqb (getD l 0 0) tab) lineread.Malformed (fieldsRead (getD l 0 0) next (partedBy tab (drop 2 l))) ≡ numberRead (getD l 0 0) n next
-  unfolding fieldsRead
+  pub only-field : (n j : ℕ) → fieldRead 2 (upTo tab (drop 2 l)) ≡ field.Number n j → length l ≤ j → cond (eqb (getD l 0 0) tab) parsed.Malformed (fieldsParsed (getD l 0 0) (partedBy tab (drop 2 l))) ≡ numberParsed (getD l 0 0) n
+  unfolding fieldsParsed
   only-field n j p h = rw (last-field l 2 n j p h) (go (eqb (getD l 0 0) tab) refl)
     where
-      go : (t : Bool) → eqb (getD l 0 0) tab ≡ t → cond t lineread.Malformed (numberRead (getD l 0 0) n next) ≡ numberRead (getD l 0 0) n next
+      go : (t : Bool) → eqb (getD l 0 0) tab ≡ t → cond t parsed.Malformed (numberParsed (getD l 0 0) n) ≡ numberParsed (getD l 0 0) n
       go true q = rw (eqb-true (getD l 0 0) tab q)
       go false q = refl
 
 -- The line at a position of a text t, whose newline or whose end stands at a position
 
-module _ (t : List ℕ) (at end : ℕ) (ends : end ≡ at + length (upTo newline (drop at t))) where
-  pub no-newline : length t ≤ end → lineReadAt at (partedBy newline (drop at t)) ≡ lineread.Malformed
+module _ (t : List ℕ) (at k end : ℕ) (ends : end ≡ at + length (upTo newline (drop at t))) where
+  pub no-newline : length t ≤ end → lineReadAt at k (partedBy newline (drop at t)) ≡ lineread.Malformed
   unfolding lineReadAt
   no-newline h = rw (one-piece-at newline t at end (sym ends) h)
 
-  pub newline-at : end < length t → lineReadAt at (partedBy newline (drop at t)) ≡ lineRead (lineFrom (take (end - at) (drop at t))) (end + 1)
+  pub newline-at : end < length t → lineReadAt at k (partedBy newline (drop at t)) ≡ asRead (lineParsed (lineFrom (take (end - at) (drop at t)))) (end + 1) (k + 1)
   unfolding lineReadAt
   newline-at h =
       rw (pieces-at newline t at end (sym ends) h, parted newline (drop (end + 1) t) .are, ← ends)
-      (ap (λ x. lineRead (lineFrom x) (end + 1)) (sym (take-upTo newline (drop at t)) ∙ ap (λ n. take n (drop at t)) {x = length (upTo newline (drop at t))} {y = end - at} (omega arith)))
+      (ap (λ x. asRead (lineParsed (lineFrom x)) (end + 1) (k + 1)) (sym (take-upTo newline (drop at t)) ∙ ap (λ n. take n (drop at t)) {x = length (upTo newline (drop at t))} {y = end - at} (omega arith)))

@@ -1,24 +1,22 @@
 -- How the reading of a text stands between two lines, and what the next line makes of it. Assumes nothing.
-use Prim.Native.Nat.{ℕ, suc, _+_, _≤_, _<_}
-use mathlib.Core.Path.{_≡_, refl, sym, ap, ap₂, subst, _∙_}
+use Prim.Native.Nat.{ℕ, _≤_, _<_}
+use mathlib.Core.Path.{_≡_, refl, sym, ap, ap₂, _∙_}
 use mathlib.Core.Bool.{true, false}
 use mathlib.Core.List.{List}
-use native.Mathlib.Numerals.{add-one}
-use native.Mathlib.Omega.{arith}
+use mathlib.Core.Option.{some}
 use lib.ListN.{length, getD, drop}
 use Rattle.model.specs.declared.refusal.Refusal.{Refusal}
 use Rattle.model.specs.declared.refusal.Refusal.the-variants.{MalformedLine}
 use Rattle.model.specs.declared.answers.Reading.the-variants as reading
-use Rattle.model.specs.Board.{Sheet, edges}
-use Rattle.model.specs.Text.{newline, partedBy, refused, begun, readOn, readText}
+use Rattle.model.specs.Board.{Sheet, edges, vertexLimit, edgeLimit}
+use Rattle.model.specs.Text.{newline, partedBy, refused, firstLine, begun, readOn, readText}
 use Rattle.model.specs.TextOutcomes.{counts}
+use Rattle.theory.proofs.TextReading.{first-vertices}
 use Rattle.text.specs.declared.line.Line.{Line}
-use Rattle.text.specs.declared.line.Line.the-variants as line
 use Rattle.text.specs.Order.{meant, mayStand}
-use Rattle.text.specs.Scratch.{Sized, Storable, edgesWith, Stores, Holds, Held, ReadsInto}
-use Rattle.text.proofs.ReadLaws.{LineIs, NoLine, withLine, goes-on, out-of-place, malformed, finishes}
-use Rattle.text.proofs.FirstLaws.{Begun}
-use Rattle.text.proofs.HoldLaws.{holds-begun, holds-line, storable, edges-with, vertices-with}
+use Rattle.text.specs.Scratch.{Sized, edgesWith, Stores, Holds, ReadsInto}
+use Rattle.text.proofs.ReadLaws.{LineIs, NoLine, withLine, goes-on, out-of-place, malformed, finishes, first-is}
+use Rattle.text.proofs.HoldLaws.{holds-begun, holds-line, edges-with, vertices-with}
 
 -- the sheet so far, which the arrays hold, and the line that comes next
 pub record Progress (t E M S L : List ℕ) (n at k : ℕ) (last : Line) (m : ℕ) : Type 0 where
@@ -27,23 +25,20 @@ pub record Progress (t E M S L : List ℕ) (n at k : ℕ) (last : Line) (m : ℕ
   pub vertices-are : sheet .board .vertices ≡ n
   pub edges-are : edges (sheet .board) ≡ m
   pub holds : Holds sheet E M S L
-  pub numbered : k ≤ at + 1
-  pub inside : at ≤ length t
 
 -- a refused text says nothing of the arrays
 pub into-refused : (t E M S L : List ℕ) (r : Refusal) → readText t ≡ refused r → ReadsInto t (reading.Refused r) E M S L
 into-refused t E M S L r p = record { result = sym (ap counts p); held = rw p tt }
 
-pub begins : (t E M S L : List ℕ) (n next : ℕ) → Begun t n next → Sized E M S L → ((v : ℕ) → getD S v 0 ≡ 0) → Progress t E M S L n next 2 (line.Vertices n) 0
-begins t E M S L n next w sized zeros =
+-- the first line, which is taken
+pub begins : (t E M S L : List ℕ) (l : Line) (next k′ n : ℕ) → LineIs t 0 1 l next k′ → firstLine (meant l) ≡ some n → Sized E M S L → ((v : ℕ) → getD S v 0 ≡ 0) → Progress t E M S L n next k′ l 0
+begins t E M S L l next k′ n is first sized zeros =
     record {
       sheet = begun n;
-      reading = w .reading;
+      reading = first-is t l next k′ n is first;
       vertices-are = refl;
       edges-are = refl;
-      holds = holds-begun n E M S L sized zeros (w .vertex-limit);
-      numbered = omega arith;
-      inside = w .inside;
+      holds = holds-begun n E M S L sized zeros (first-vertices (meant l) n first .vertex-limit);
     }
 
 module _ (t E M S L : List ℕ) (n at k : ℕ) (last : Line) (m : ℕ) (w : Progress t E M S L n at k last m) where
@@ -51,10 +46,11 @@ module _ (t E M S L : List ℕ) (n at k : ℕ) (last : Line) (m : ℕ) (w : Prog
   over-sheet : (l : Line) → mayStand (w .sheet .board .vertices) (edges (w .sheet .board)) (meant last) (meant l) ≡ mayStand n m (meant last) (meant l)
   over-sheet l = ap₂ (λ x y. mayStand x y (meant last) (meant l)) (w .vertices-are) (w .edges-are)
 
-  pub ends-malformed : at < length t → NoLine t at → ReadsInto t (reading.Refused (MalformedLine k)) E M S L
-  ends-malformed h none =
-      into-refused t E M S L (MalformedLine k)
-      (w .reading ∙ malformed (w .sheet) (meant last) k t at (w .holds .vertex-limit) (w .holds .edge-limit) h none)
+  pub within : (n ≤ vertexLimit) × (m ≤ edgeLimit)
+  within = (rw (w .vertices-are) at (w .holds .vertex-limit), rw (w .edges-are) at (w .holds .edge-limit))
+
+  pub ends-malformed : at < length t → NoLine t at → readText t ≡ refused (MalformedLine k)
+  ends-malformed h none = w .reading ∙ malformed (w .sheet) (meant last) k t at (w .holds .vertex-limit) (w .holds .edge-limit) h none
 
   pub finished : length t ≤ at → ReadsInto t (reading.Counts n m) E M S L
   finished h =
@@ -64,26 +60,18 @@ module _ (t E M S L : List ℕ) (n at k : ℕ) (last : Line) (m : ℕ) (w : Prog
         held = rw is (w .holds);
       }
 
-  module _ (l : Line) (next : ℕ) (is : LineIs t at l next) where
-    pub ends-out-of-place : mayStand n m (meant last) (meant l) ≡ false → ReadsInto t (reading.Refused (MalformedLine k)) E M S L
-    ends-out-of-place p =
-        into-refused t E M S L (MalformedLine k)
-        (w .reading ∙ out-of-place (w .sheet) (meant last) k t at l next is (over-sheet l ∙ p))
+  module _ (l : Line) (next k′ : ℕ) (is : LineIs t at k l next k′) where
+    pub ends-out-of-place : mayStand n m (meant last) (meant l) ≡ false → readText t ≡ refused (MalformedLine k)
+    ends-out-of-place p = w .reading ∙ out-of-place (w .sheet) (meant last) k t at l next k′ is (over-sheet l ∙ p)
 
-    pub fits : mayStand n m (meant last) (meant l) ≡ true → Storable m (meant l)
-    fits p =
-        rw (w .edges-are) at (storable (w .sheet .board .vertices) (edges (w .sheet .board)) (meant last) (meant l) (w .holds .vertex-limit) (w .holds .edge-limit) (over-sheet l ∙ p))
-
-    pub goes-further : (m′ : ℕ) (E′ M′ S′ L′ : List ℕ) → mayStand n m (meant last) (meant l) ≡ true → Stores m (meant l) E M S L m′ E′ M′ S′ L′ → Progress t E′ M′ S′ L′ n next (k + 1) l m′
+    pub goes-further : (m′ : ℕ) (E′ M′ S′ L′ : List ℕ) → mayStand n m (meant last) (meant l) ≡ true → Stores m (meant l) E M S L m′ E′ M′ S′ L′ → Progress t E′ M′ S′ L′ n next k′ l m′
     goes-further m′ E′ M′ S′ L′ p s =
         let X = w .sheet in
         let q = over-sheet l ∙ p in
         record {
           sheet = withLine X (meant l);
-          reading = w .reading ∙ goes-on X (meant last) k t at l next is q ∙ ap (λ i. readOn (withLine X (meant l)) (meant l) i (partedBy newline (drop next t))) (sym (add-one k));
+          reading = w .reading ∙ goes-on X (meant last) k t at l next k′ is q;
           vertices-are = vertices-with X (meant l) ∙ w .vertices-are;
           edges-are = edges-with X (meant l) ∙ ap (λ i. edgesWith i (meant l)) (w .edges-are) ∙ sym (s .count);
           holds = rw (s .ends-are, s .marks-are, s .syndrome-is, s .loss-is, ← (w .edges-are)) (holds-line X E M S L (w .holds) (meant last) (meant l) q);
-          numbered = omega (arith, w .numbered, is .further);
-          inside = is .inside;
         }

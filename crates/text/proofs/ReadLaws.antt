@@ -4,6 +4,7 @@ use mathlib.Core.Path.{_≡_, refl, sym, ap, _∙_}
 use mathlib.Core.Bool.{Bool, true, false, cond, not, _&&_, false≢true, and-true, and-false}
 use mathlib.Core.List.{List, [], _∷_}
 use mathlib.Core.Option.{Option, none, some}
+use native.Mathlib.Numerals.{add-one}
 use native.Mathlib.Omega.{arith}
 use borrow.Author.Tests.{ltb-true, ltb-false, leb-true, leb-false, le-leb, lt-leb}
 use lib.ListN.{length, drop, drop-of-length-le}
@@ -16,16 +17,18 @@ use Rattle.model.specs.Text.{V-line, E-line, S-line, X-line, newline, numbersOf
 use Rattle.text.specs.declared.line.Line.{Line}
 use Rattle.text.specs.declared.line.LineRead.the-variants as lineread
 use Rattle.text.specs.Pieces.{upTo}
-use Rattle.text.specs.Lines.{asLine, asRead, small, lineRead, lineReadAt}
+use Rattle.text.specs.Lines.{asLine, asParsed, small, lineParsed, asRead, lineReadAt}
 use Rattle.text.specs.Order.{meant, edgeFits, mayStand}
 use Rattle.text.proofs.PieceLaws.{parted, pieces-at, one-piece-at}
+use Rattle.theory.proofs.TextReading.{first-vertices}
 use Rattle.model.proofs.Contradiction.{zero-one}
 
--- a line that reads: its bytes, and where the next one begins
-pub record LineIs (t : List ℕ) (at : ℕ) (l : Line) (next : ℕ) : Type 0 where
+-- a line that reads: its bytes, and where the next one begins, with the next number
+pub record LineIs (t : List ℕ) (at k : ℕ) (l : Line) (next k′ : ℕ) : Type 0 where
   pub bytes : List ℕ
   pub pieces : partedBy newline (drop at t) ≡ bytes ∷ partedBy newline (drop next t)
   pub reads : lineFrom bytes ≡ some (meant l)
+  pub follows : k′ ≡ k + 1
   pub further : at < next
   pub inside : next ≤ length t
 
@@ -41,7 +44,7 @@ meant-asLine (E-line a b m) = refl
 meant-asLine (S-line v) = refl
 meant-asLine (X-line e) = refl
 
-module _ (t : List ℕ) (at : ℕ) where
+module _ (t : List ℕ) (at k : ℕ) where
   ends : ℕ
   ends = at + length (upTo newline (drop at t))
 
@@ -53,9 +56,9 @@ module _ (t : List ℕ) (at : ℕ) where
       go true p = some-where (ltb-true ends (length t) p)
       go false p = nowhere (ltb-false ends (length t) p)
 
-  pub line-is : (l : Line) (next : ℕ) → lineReadAt at (partedBy newline (drop at t)) ≡ lineread.Line l next → LineIs t at l next
+  pub line-is : (l : Line) (next k′ : ℕ) → lineReadAt at k (partedBy newline (drop at t)) ≡ lineread.Line l next k′ → LineIs t at k l next k′
   unfolding lineReadAt ends
-  line-is l next p =
+  line-is l next k′ p =
       newline?
       (λ h.
       let w = parted newline (drop (ends + 1) t) in
@@ -65,24 +68,26 @@ module _ (t : List ℕ) (at : ℕ) where
       let q = one-piece-at newline t at ends refl h in
       zero-one (cc))
     where
-      found : ends < length t → partedBy newline (drop at t) ≡ upTo newline (drop at t) ∷ partedBy newline (drop (ends + 1) t) → (o : Option text.Line) → lineFrom (upTo newline (drop at t)) ≡ o → lineRead o (ends + 1) ≡ lineread.Line l next → LineIs t at l next
+      found : ends < length t → partedBy newline (drop at t) ≡ upTo newline (drop at t) ∷ partedBy newline (drop (ends + 1) t) → (o : Option text.Line) → lineFrom (upTo newline (drop at t)) ≡ o → asRead (lineParsed o) (ends + 1) (k + 1) ≡ lineread.Line l next k′ → LineIs t at k l next k′
       found h q none r p = zero-one (cc)
-      found h q (some k) r p = kept (small (numbersOf k)) p
+      found h q (some line) r p = kept (small (numbersOf line)) p
         where
-          kept : (b : Bool) → asRead (cond b (some k) none) (ends + 1) ≡ lineread.Line l next → LineIs t at l next
+          kept : (b : Bool) → asRead (asParsed (cond b (some line) none)) (ends + 1) (k + 1) ≡ lineread.Line l next k′ → LineIs t at k l next k′
           kept true p =
-              let is : asLine k ≡ l = cc in
+              let is : asLine line ≡ l = cc in
               let there : ends + 1 ≡ next = cc in
+              let number : k + 1 ≡ k′ = cc in
               record {
                 bytes = upTo newline (drop at t);
                 pieces = q ∙ ap (λ j. upTo newline (drop at t) ∷ partedBy newline (drop j t)) there;
-                reads = r ∙ ap some (sym (meant-asLine k) ∙ ap meant is);
+                reads = r ∙ ap some (sym (meant-asLine line) ∙ ap meant is);
+                follows = sym number;
                 further = omega arith;
                 inside = omega arith;
               }
           kept false p = zero-one (cc)
 
-  pub no-line : lineReadAt at (partedBy newline (drop at t)) ≡ lineread.Malformed → NoLine t at
+  pub no-line : lineReadAt at k (partedBy newline (drop at t)) ≡ lineread.Malformed → NoLine t at
   unfolding lineReadAt ends
   no-line p =
       newline?
@@ -92,13 +97,13 @@ module _ (t : List ℕ) (at : ℕ) where
       lost (upTo newline (drop (ends + 1) t)) (w .others) q (lineFrom (upTo newline (drop at t))) refl (sym (rw q) ∙ p))
       (λ h. unended (upTo newline (drop at t)) (one-piece-at newline t at ends refl h) h)
     where
-      lost : (next : List ℕ) (rest : List (List ℕ)) → partedBy newline (drop at t) ≡ upTo newline (drop at t) ∷ next ∷ rest → (o : Option text.Line) → lineFrom (upTo newline (drop at t)) ≡ o → lineRead o (ends + 1) ≡ lineread.Malformed → NoLine t at
+      lost : (next : List ℕ) (rest : List (List ℕ)) → partedBy newline (drop at t) ≡ upTo newline (drop at t) ∷ next ∷ rest → (o : Option text.Line) → lineFrom (upTo newline (drop at t)) ≡ o → asRead (lineParsed o) (ends + 1) (k + 1) ≡ lineread.Malformed → NoLine t at
       lost next rest q none r p = unread (upTo newline (drop at t)) next rest q r
-      lost next rest q (some k) r p = cut (small (numbersOf k)) refl p
+      lost next rest q (some line) r p = cut (small (numbersOf line)) refl p
         where
-          cut : (b : Bool) → small (numbersOf k) ≡ b → asRead (cond b (some k) none) (ends + 1) ≡ lineread.Malformed → NoLine t at
+          cut : (b : Bool) → small (numbersOf line) ≡ b → asRead (asParsed (cond b (some line) none)) (ends + 1) (k + 1) ≡ lineread.Malformed → NoLine t at
           cut true e p = zero-one (cc)
-          cut false e p = large (upTo newline (drop at t)) next rest k q r e
+          cut false e p = large (upTo newline (drop at t)) next rest line q r e
 
 -- A line that may stand
 
@@ -136,15 +141,15 @@ stands-small n m last (X-line e) hn hm p =
 -- What is left of the text, by the answer about the next line
 
 module _ (X : Sheet) (last : text.Line) (k : ℕ) (t : List ℕ) (at : ℕ) where
-  pub goes-on : (l : Line) (next : ℕ) → LineIs t at l next → mayStand (X .board .vertices) (edges (X .board)) last (meant l) ≡ true → readOn X last k (partedBy newline (drop at t)) ≡ readOn (withLine X (meant l)) (meant l) (suc k) (partedBy newline (drop next t))
+  pub goes-on : (l : Line) (next k′ : ℕ) → LineIs t at k l next k′ → mayStand (X .board .vertices) (edges (X .board)) last (meant l) ≡ true → readOn X last k (partedBy newline (drop at t)) ≡ readOn (withLine X (meant l)) (meant l) k′ (partedBy newline (drop next t))
   unfolding readOn
-  goes-on l next w stands =
+  goes-on l next k′ w stands =
       let v = parted newline (drop next t) in
-      rw (w .pieces, v .are, w .reads, steps X last (meant l), stands)
+      rw (w .follows, add-one k, w .pieces, v .are, w .reads, steps X last (meant l), stands)
 
-  pub out-of-place : (l : Line) (next : ℕ) → LineIs t at l next → mayStand (X .board .vertices) (edges (X .board)) last (meant l) ≡ false → readOn X last k (partedBy newline (drop at t)) ≡ refused (MalformedLine k)
+  pub out-of-place : (l : Line) (next k′ : ℕ) → LineIs t at k l next k′ → mayStand (X .board .vertices) (edges (X .board)) last (meant l) ≡ false → readOn X last k (partedBy newline (drop at t)) ≡ refused (MalformedLine k)
   unfolding readOn
-  out-of-place l next w stands =
+  out-of-place l next k′ w stands =
       let v = parted newline (drop next t) in
       rw (w .pieces, v .are, w .reads, steps X last (meant l), stands)
 
@@ -169,15 +174,15 @@ module _ (X : Sheet) (last : text.Line) (k : ℕ) (t : List ℕ) (at : ℕ) wher
 -- The first line
 
 module _ (t : List ℕ) where
-  pub begins : (l : Line) (next n : ℕ) → LineIs t 0 l next → firstLine (meant l) ≡ some n → readText t ≡ readOn (begun n) (V-line n) 2 (partedBy newline (drop next t))
+  pub first-is : (l : Line) (next k′ n : ℕ) → LineIs t 0 1 l next k′ → firstLine (meant l) ≡ some n → readText t ≡ readOn (begun n) (meant l) k′ (partedBy newline (drop next t))
   unfolding readText readLines
-  begins l next n w first =
+  first-is l next k′ n w first =
       let v = parted newline (drop next t) in
-      rw (w .pieces, v .are, w .reads, first)
+      rw (w .follows, w .pieces, v .are, w .reads, first, first-vertices (meant l) n first .is)
 
-  pub no-first : (l : Line) (next : ℕ) → LineIs t 0 l next → firstLine (meant l) ≡ none → readText t ≡ refused (MalformedLine 1)
+  pub no-first : (l : Line) (next k′ : ℕ) → LineIs t 0 1 l next k′ → firstLine (meant l) ≡ none → readText t ≡ refused (MalformedLine 1)
   unfolding readText readLines
-  no-first l next w first =
+  no-first l next k′ w first =
       let v = parted newline (drop next t) in
       rw (w .pieces, v .are, w .reads, first)
 

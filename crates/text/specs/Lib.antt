@@ -1,7 +1,8 @@
 pub mod Pieces
 pub mod Fields
 pub mod Lines
+pub mod Reader
 pub mod Order
-pub mod First
 pub mod Scratch
+pub mod Stages
 pub mod Printing

@@ -7,8 +7,9 @@ ghost use mathlib.Core.Path.{_≡_};
 ghost use Prim.Native.Nat.{_+_};
 ghost use lib.ListN.{length, drop};
 ghost use Rattle.model.specs.Text.{newline, tab, letterE, partedBy, lineFrom};
+ghost use Rattle.model.specs.LineNumbers.{lineNumber};
 ghost use Rattle.text.specs.Pieces.{upTo};
-ghost use Rattle.text.specs.Lines.{numberRead, fieldsRead, lineRead, lineReadAt};
+ghost use Rattle.text.specs.Lines.{numberParsed, fieldsParsed, lineParsed, ReadsLine};
 
 // The byte that ends a line.
 pub const NEWLINE: u8 = 10;
@@ -34,9 +35,19 @@ pub enum Line {
     Lost(Edge),
 }
 
-// What a line reads as: the line and the position after its newline.
+// What the bytes of a line say.
+pub enum Parsed {
+    Line(Line),
+    Malformed,
+}
+
+// What reading a line gives: the line, the position after its newline, and the number of the line that begins there.
 pub enum LineRead {
-    Line { line: Line, next: usize },
+    Line {
+        line: Line,
+        next: usize,
+        number: usize,
+    },
     Malformed,
 }
 
@@ -55,101 +66,97 @@ fn line_end(text: &[u8], at: usize) -> usize
 }
 
 // An edge's line: three fields from the third byte on.
-fn edge_line(line: &[u8], next: usize) -> LineRead
-    ensures { λ r. ⌜ r ≡ fieldsRead letterE next (partedBy tab (drop 2 (now (line .entry)))) ⌝ }
+fn edge_line(line: &[u8]) -> Parsed
+    ensures { λ r. ⌜ r ≡ fieldsParsed letterE (partedBy tab (drop 2 (now (line .entry)))) ⌝ }
 {
     let Field::Number {
         value: first,
         end: second_at,
     } = field_at(line, 2)
     else {
-        return LineRead::Malformed;
+        return Parsed::Malformed;
     };
     if line.len() <= second_at {
-        return LineRead::Malformed;
+        return Parsed::Malformed;
     }
     let Field::Number {
         value: second,
         end: mark_at,
     } = field_at(line, second_at + 1)
     else {
-        return LineRead::Malformed;
+        return Parsed::Malformed;
     };
     if line.len() <= mark_at {
-        return LineRead::Malformed;
+        return Parsed::Malformed;
     }
     let Field::Number { value: mark, end } = field_at(line, mark_at + 1) else {
-        return LineRead::Malformed;
+        return Parsed::Malformed;
     };
     if end < line.len() {
-        return LineRead::Malformed;
+        return Parsed::Malformed;
     }
-    LineRead::Line {
-        line: Line::Edge {
-            first: Vertex(first),
-            second: Vertex(second),
-            mark,
-        },
-        next,
-    }
+    Parsed::Line(Line::Edge {
+        first: Vertex(first),
+        second: Vertex(second),
+        mark,
+    })
 }
 
 // A line of one number: the three other letters.
-fn number_line(letter: u8, value: u16, next: usize) -> LineRead
-    ensures { λ r. ⌜ r ≡ numberRead letter value next ⌝ }
+fn number_line(letter: u8, value: u16) -> Parsed
+    ensures { λ r. ⌜ r ≡ numberParsed letter value ⌝ }
 {
     if letter == LETTER_V {
-        return LineRead::Line {
-            line: Line::Vertices(value),
-            next,
-        };
+        return Parsed::Line(Line::Vertices(value));
     }
     if letter == LETTER_S {
-        return LineRead::Line {
-            line: Line::Syndrome(Vertex(value)),
-            next,
-        };
+        return Parsed::Line(Line::Syndrome(Vertex(value)));
     }
     if letter == LETTER_X {
-        return LineRead::Line {
-            line: Line::Lost(Edge(value)),
-            next,
-        };
+        return Parsed::Line(Line::Lost(Edge(value)));
     }
-    LineRead::Malformed
+    Parsed::Malformed
 }
 
 // A line without its newline: a letter, a tab, and its fields.
-fn line_of(line: &[u8], next: usize) -> LineRead
-    ensures { λ r. ⌜ r ≡ lineRead (lineFrom (now (line .entry))) next ⌝ }
+fn line_of(line: &[u8]) -> Parsed
+    ensures { λ r. ⌜ r ≡ lineParsed (lineFrom (now (line .entry))) ⌝ }
 {
     if line.len() < 2 {
-        return LineRead::Malformed;
+        return Parsed::Malformed;
     }
     let letter = line[0];
     let second = line[1];
     if second != TAB {
-        return LineRead::Malformed;
+        return Parsed::Malformed;
     }
     if letter == LETTER_E {
-        return edge_line(line, next);
+        return edge_line(line);
     }
     let Field::Number { value, end } = field_at(line, 2) else {
-        return LineRead::Malformed;
+        return Parsed::Malformed;
     };
     if end < line.len() {
-        return LineRead::Malformed;
+        return Parsed::Malformed;
     }
-    number_line(letter, value, next)
+    number_line(letter, value)
 }
 
-// The line of a text that begins at a position; a line without its newline is malformed.
-pub fn line_at(text: &[u8], at: usize) -> LineRead
-    ensures { λ r. ⌜ r ≡ lineReadAt at (partedBy newline (drop at (now (text .entry)))) ⌝ }
+// The line of a text that begins at a position and has this number; a line without its newline is malformed.
+pub fn line_at(text: &[u8], at: usize, number: usize) -> LineRead
+    requires { ⌜ number ≡ lineNumber (now text) at ⌝ }
+    ensures { λ r. ⌜ ReadsLine (now (text .entry)) at number r ⌝ }
 {
     let end = line_end(text, at);
     if text.len() <= end {
         return LineRead::Malformed;
     }
-    line_of(&text[at..end], end + 1)
+    let Parsed::Line(line) = line_of(&text[at..end]) else {
+        return LineRead::Malformed;
+    };
+    LineRead::Line {
+        line,
+        next: end + 1,
+        number: number + 1,
+    }
 }

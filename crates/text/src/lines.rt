@@ -1,26 +1,44 @@
 use crate::line::LineRead;
 use crate::line::line_at;
 ghost use mathlib.Core.Path.{_≡_};
-ghost use lib.ListN.{drop};
-ghost use Rattle.model.specs.Text.{newline, partedBy};
-ghost use Rattle.text.specs.Lines.{lineReadAt};
+ghost use Rattle.model.specs.LineNumbers.{lineNumber};
+ghost use Rattle.text.specs.Lines.{ReadsLine};
+ghost use Rattle.text.specs.Reader.{AtStart, MovedOn};
 
-// The line reader: the lent text itself, and the position at which the next line begins.
+// The line reader: the lent text itself, the position at which the next line begins, and that line's number.
 pub(crate) struct Lines<'a> {
-    text: &'a [u8],
-    at: usize,
+    pub text: &'a [u8],
+    pub at: usize,
+    pub number: usize,
 }
 
-// What the next line reads as.
-fn next_line<'a>(lines: Lines<'a>) -> LineRead
-    ensures { λ r. ⌜ r ≡ lineReadAt (lines .entry .at) (partedBy newline (drop (lines .entry .at) (now (lines .entry .text)))) ⌝ }
+// A reader before the first line, which has number 1.
+pub fn lines_of<'a>(text: &'a [u8]) -> Lines<'a>
+    ensures { λ r. ⌜ AtStart (text .entry) r ⌝ }
 {
-    line_at(lines.text, lines.at)
+    Lines {
+        text,
+        at: 0,
+        number: 1,
+    }
 }
 
-// The line of a text that begins at a position, by way of the line reader.
-pub fn read_line(text: &[u8], at: usize) -> LineRead
-    ensures { λ r. ⌜ r ≡ lineReadAt at (partedBy newline (drop at (now (text .entry)))) ⌝ }
+// The next line, the position after it and the number of the line that begins there.
+pub fn next_line<'a>(lines: Lines<'a>) -> LineRead
+    requires { ⌜ lines .number ≡ lineNumber (now (lines .text)) (lines .at) ⌝ }
+    ensures { λ r. ⌜ ReadsLine (now (lines .entry .text)) (lines .entry .at) (lines .entry .number) r ⌝ }
 {
-    next_line(Lines { text, at })
+    line_at(lines.text, lines.at, lines.number)
+}
+
+// The same reader before a later line, which begins at a position and has this number.
+pub fn moved_on<'a>(lines: Lines<'a>, at: usize, number: usize) -> Lines<'a>
+    requires { ⌜ number ≡ lineNumber (now (lines .text)) at ⌝ }
+    ensures { λ r. ⌜ MovedOn (lines .entry) at number r ⌝ }
+{
+    Lines {
+        text: lines.text,
+        at,
+        number,
+    }
 }

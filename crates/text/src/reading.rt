@@ -1,12 +1,11 @@
 use crate::copy::copy_bytes;
 use crate::copy::copy_numbers;
-use crate::first::First;
-use crate::first::first_line;
-use crate::line::Line;
 use crate::line::LineRead;
-use crate::lines::read_line;
-use crate::order::may_stand;
-use crate::store::store;
+use crate::lines::lines_of;
+use crate::lines::moved_on;
+use crate::lines::next_line;
+use crate::stage::Stage;
+use crate::stage::take_line;
 use model::answers::Reading;
 use model::limits::EDGES;
 use model::limits::TEXT;
@@ -30,32 +29,28 @@ fn read_lines(
     requires { ⌜ ((v : ℕ) → getD (now syndrome) v 0 ≡ 0) ⌝ }
     ensures { λ r. ⌜ ReadsInto (now (text .entry)) r (now (ends .exit)) (now (marks .exit)) (now (syndrome .exit)) (now (loss .exit)) ⌝ }
 {
-    let First::Vertices {
-        count: vertices,
-        next: second,
-    } = first_line(text)
-    else {
-        return Reading::Refused(Refusal::MalformedLine(1));
-    };
-    let mut at = second;
-    let mut number = 2;
-    let mut last = Line::Vertices(vertices);
-    let mut edges = 0u16;
-    while at < text.len() {
-        let LineRead::Line { line, next } = read_line(text, at) else {
-            return Reading::Refused(Refusal::MalformedLine(number));
+    let mut lines = lines_of(text);
+    let mut stage = Stage::Start;
+    loop {
+        let LineRead::Line { line, next, number } = next_line(lines) else {
+            return Reading::Refused(Refusal::MalformedLine(lines.number));
         };
-        if !may_stand(last, line, vertices, edges) {
-            return Reading::Refused(Refusal::MalformedLine(number));
+        stage = take_line(stage, line, ends, marks, syndrome, loss);
+        let Stage::Sheet {
+            vertices,
+            edges,
+            last: _,
+        } = stage
+        else {
+            return Reading::Refused(Refusal::MalformedLine(lines.number));
+        };
+        lines = moved_on(lines, next, number);
+        if text.len() <= lines.at {
+            return Reading::Counts {
+                vertices: vertices as usize,
+                edges: edges as usize,
+            };
         }
-        edges = store(line, edges, ends, marks, syndrome, loss);
-        last = line;
-        at = next;
-        number += 1;
-    }
-    Reading::Counts {
-        vertices: vertices as usize,
-        edges: edges as usize,
     }
 }
 

@@ -1,8 +1,8 @@
 -- `text::line::edge_line` meets its contract: the three fields are read one after the other, and a fourth is refused. Assumes nothing.
-use mathlib.Core.Path.{_≡_, refl, sym, ap, _∙_}
+use mathlib.Core.Path.{sym, ap, _∙_}
 use borrow.Author.Needs.{needs}
 use denote.Ref.{now}
-use Rattle.text.specs.Lines.{asRead, fieldsRead}
+use Rattle.text.specs.Lines.{asParsed, fieldsParsed}
 use Rattle.text.proofs.LineLaws.{bad-field, last-field, field-before, four-fields}
 use Rattle.text.proofs.line.edge_line.Statement.{statement}
 use Rattle.text.proofs.line.edge_line.Tie as tie
@@ -20,11 +20,11 @@ enum-told : tie.Need-enum-told
 enum-told c = search needs
 
 returns : tie.Need-returns
-unfolding fieldsRead
+unfolding fieldsParsed
 returns c = rw (bad-field (now (c .before .before .before .before .args .line)) 2 (sym (c .before .before .field-at .ensures) ∙ c .enum-told .given .1))
 
 returns-2 : tie.Need-returns-2
-unfolding fieldsRead
+unfolding fieldsParsed
 returns-2 c =
     let l = now (c .before .before .before .before .before .before .args .line) in
     rw (last-field l 2 _ _ (sym (c .before .before .before .before .field-at .ensures) ∙ c .before .before .first .given .1) (c .if1 .taken))
@@ -42,7 +42,7 @@ enum-told-2 : tie.Need-enum-told-2
 enum-told-2 c = search needs
 
 returns-3 : tie.Need-returns-3
-unfolding fieldsRead
+unfolding fieldsParsed
 returns-3 c =
     let l = now (c .before .before .before .before .before .before .before .before .before .args .line) in
     rw (
@@ -51,7 +51,7 @@ returns-3 c =
     )
 
 returns-4 : tie.Need-returns-4
-unfolding fieldsRead
+unfolding fieldsParsed
 returns-4 c =
     let l = now (c .before .before .before .before .before .before .before .before .before .before .before .args .line) in
     rw (
@@ -72,7 +72,7 @@ enum-told-3 : tie.Need-enum-told-3
 enum-told-3 c = search needs
 
 returns-5 : tie.Need-returns-5
-unfolding fieldsRead
+unfolding fieldsParsed
 returns-5 c =
     let l = now (c .before .before .before .before .before .before .before .before .before .before .before .before .before .before .args .line) in
     rw (
@@ -82,7 +82,7 @@ returns-5 c =
     )
 
 returns-6 : tie.Need-returns-6
-unfolding fieldsRead
+unfolding fieldsParsed
 returns-6 c =
     let l = now (c .before .before .before .before .before .before .before .before .before .before .before .before .before .before .before .before .args .line) in
     rw (
@@ -90,10 +90,10 @@ returns-6 c =
       field-before l _ _ _ (sym (c .before .before .before .before .before .before .before .before .before .field-at2 .ensures) ∙ c .before .before .before .before .before .before .before .second .given .1) (c .before .before .before .before .before .if2 .left),
       field-before l _ _ _ (sym (c .before .before .before .before .field-at3 .ensures) ∙ c .before .before .mark .given .1) (c .if3 .taken),
     )
-    (ap (λ o. asRead o (c .before .before .before .before .before .before .before .before .before .before .before .before .before .before .before .before .args .next)) (sym (four-fields _ _ _ _)))
+    (ap asParsed (sym (four-fields _ _ _ _)))
 
 returns-7 : tie.Need-returns-7
-unfolding fieldsRead
+unfolding fieldsParsed
 returns-7 c =
     let l = now (c .before .before .before .before .before .before .before .before .before .before .before .before .before .before .before .before .args .line) in
     rw (

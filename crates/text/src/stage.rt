@@ -1,0 +1,84 @@
+use crate::line::Line;
+use crate::order::may_stand;
+use crate::store::store;
+use model::limits::VERTICES;
+ghost use mathlib.Core.Path.{_≡_};
+ghost use Rattle.text.specs.Order.{meant};
+ghost use Rattle.text.specs.Stages.{verticesOf, begunWith, Within, Takes};
+
+// How far a text has been read: no line as yet; lines that make a sheet of so many vertices and so far so many edges, with the last of them; or a malformed line, which ends the reading.
+pub enum Stage {
+    Start,
+    Sheet {
+        vertices: u16,
+        edges: u16,
+        last: Line,
+    },
+    Malformed,
+}
+
+// A `V` line's vertex count, and 0 for every other line.
+fn vertices_of(line: Line) -> u16
+    ensures { λ r. ⌜ r ≡ verticesOf (meant line) ⌝ }
+{
+    match line {
+        Line::Vertices(count) => count,
+        Line::Edge {
+            first: _,
+            second: _,
+            mark: _,
+        } => 0,
+        Line::Syndrome(_) => 0,
+        Line::Lost(_) => 0,
+    }
+}
+
+// The stage after the first line, which is a `V` line in range.
+fn begin(line: Line) -> Stage
+    ensures { λ r. ⌜ r ≡ begunWith line ⌝ }
+{
+    let vertices = vertices_of(line);
+    if vertices == 0 {
+        return Stage::Malformed;
+    }
+    if VERTICES < vertices as usize {
+        return Stage::Malformed;
+    }
+    Stage::Sheet {
+        vertices,
+        edges: 0,
+        last: line,
+    }
+}
+
+// The stage after one line more, which is put into the arrays of the sheet read so far where it may stand there.
+pub fn take_line(
+    stage: Stage,
+    line: Line,
+    ends: &mut [u16; 8192],
+    marks: &mut [u8; 4096],
+    syndrome: &mut [u8; 1024],
+    loss: &mut [u8; 4096],
+) -> Stage
+    requires { ⌜ Within stage ⌝ }
+    ensures { λ r. ⌜ Takes stage line (now (ends .entry)) (now (marks .entry)) (now (syndrome .entry)) (now (loss .entry)) r (now (ends .exit)) (now (marks .exit)) (now (syndrome .exit)) (now (loss .exit)) ⌝ }
+{
+    match stage {
+        Stage::Start => begin(line),
+        Stage::Sheet {
+            vertices,
+            edges,
+            last,
+        } => {
+            if !may_stand(last, line, vertices, edges) {
+                return Stage::Malformed;
+            }
+            Stage::Sheet {
+                vertices,
+                edges: store(line, edges, ends, marks, syndrome, loss),
+                last: line,
+            }
+        }
+        Stage::Malformed => Stage::Malformed,
+    }
+}
