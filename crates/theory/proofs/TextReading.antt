@@ -1,12 +1,13 @@
 -- Reading a text and following its lines: a text reads as a sheet exactly where it is the print of a `V` line and of lines that lead
 -- from the bare vertices to that sheet. Assumes nothing.
-use Prim.Native.Nat.{ℕ, suc, _≤_}
-use mathlib.Core.Path.{_≡_, refl, ap, ap₂, subst, _∙_}
+use Prim.Native.Nat.{ℕ, suc, _+_, _≤_}
+use mathlib.Core.Path.{_≡_, refl, sym, ap, ap₂, subst, _∙_}
 use mathlib.Core.Bool.{true, _&&_, false≢true}
-use mathlib.Core.List.{List, [], _∷_, _++_}
+use mathlib.Core.List.{List, [], _∷_, _++_, append-nil, append-assoc}
 use mathlib.Core.Option.{Option, none, some, Option·none-ne-some, Option·some-injective}
 use native.Mathlib.Omega.{arith}
 use borrow.Author.Tests.{leb-true, le-leb}
+use lib.ListN.{length}
 use lib.Dec.{leb}
 use Rattle.model.specs.declared.refusal.Refusal.{Refusal}
 use Rattle.model.specs.Board.{Sheet, vertexLimit}
@@ -43,9 +44,10 @@ leads-append (onward p q) r = onward p (leads-append q r)
 
 -- Printed lines are read
 
-parted-line : (l : Line) (ls : List Line) → partedBy newline (printed (l ∷ ls)) ≡ bytesOf l ∷ partedBy newline (printed ls)
+parted-line : (l : Line) (ls : List Line) (rest : List ℕ) → partedBy newline (printed (l ∷ ls) ++ rest) ≡ bytesOf l ∷ partedBy newline (printed ls ++ rest)
 unfolding printed
-parted-line l ls = parted-first (printed ls) (line-without l)
+parted-line l ls rest =
+    ap (partedBy newline) (append-assoc (bytesOf l) (newline ∷ printed ls) rest) ∙ parted-first (printed ls ++ rest) (line-without l)
 
 -- one line, which is not the last piece
 read-one : (X : Sheet) (last l : Line) {Y : Sheet} {pieces : List (List ℕ)} (k : ℕ) → NotEmpty pieces → step X last l ≡ some Y
@@ -53,21 +55,23 @@ read-one : (X : Sheet) (last l : Line) {Y : Sheet} {pieces : List (List ℕ)} (k
 unfolding readOn
 read-one X last l k not-empty p = rw (line-read l, p)
 
-pub leads-read : {X Y : Sheet} {last final : Line} {ls : List Line} (k : ℕ) → Leads X last ls Y final
-    → readOn X last k (partedBy newline (printed ls)) ≡ complete Y
-unfolding readOn printed partedBy
-leads-read k there = refl
-leads-read {X} {last} k (onward {l = l} {ls = ls} p r) =
-    ap (readOn X last k) (parted-line l ls)
-    ∙ read-one X last l k (parted-not-empty newline (printed ls)) p
-    ∙ leads-read (suc k) r
+-- after lines that lead from X to Y the rest is read on from Y, that many lines further on
+leads-on : {X Y : Sheet} {last final : Line} {ls : List Line} (k : ℕ) (rest : List ℕ) → Leads X last ls Y final
+    → readOn X last k (partedBy newline (printed ls ++ rest)) ≡ readOn Y final (k + length ls) (partedBy newline rest)
+unfolding printed
+leads-on {X} {last} k rest there = ap (λ j. readOn X last j (partedBy newline rest)) {x = k} {y = k + 0} (omega arith)
+leads-on {X} {Y} {last} {final} k rest (onward {l = l} {ls = ls} p r) =
+    ap (readOn X last k) (parted-line l ls rest)
+    ∙ read-one X last l k (parted-not-empty newline (printed ls ++ rest)) p
+    ∙ leads-on (suc k) rest r
+    ∙ ap (λ j. readOn Y final j (partedBy newline rest)) {x = suc k + length ls} {y = k + suc (length ls)} (omega arith)
 
 -- What reads is what is printed
 
 pub complete-is : {X Y : Sheet} → complete X ≡ complete Y → X ≡ Y
 complete-is p = cc
 
-refused-complete : {A : Type 0} {n : Refusal} {X : Sheet} → refused n ≡ complete X → A
+pub refused-complete : {A : Type 0} {n : Refusal} {X : Sheet} → refused n ≡ complete X → A
 refused-complete p = zero-one (cc)
 
 -- what was read before the rest
@@ -126,13 +130,19 @@ read-first : (n : ℕ) {pieces : List (List ℕ)} → 1 ≤ n → n ≤ vertexLi
 unfolding readLines
 read-first n h l not-empty = rw (line-read (V-line n), le-leb 1 n h, le-leb n vertexLimit l)
 
-pub spelt-reads : (text : List ℕ) (Y : Sheet) → Spells text Y → readText text ≡ complete Y
+-- after a text that reads as Y the rest is read on from Y
+pub spelt-on : (text : List ℕ) {Y : Sheet} (rest : List ℕ) (t : Spells text Y)
+    → readText (text ++ rest) ≡ readOn Y (t .final) (2 + length (t .lines)) (partedBy newline rest)
 unfolding readText
-spelt-reads text Y t =
-    ap (λ bs. readLines (partedBy newline bs)) (t .text-is)
-    ∙ ap readLines (parted-line (V-line (t .vertices)) (t .lines))
-    ∙ read-first (t .vertices) (t .some-vertex) (t .vertex-limit) (parted-not-empty newline (printed (t .lines)))
-    ∙ leads-read 2 (t .lead)
+spelt-on text rest t =
+    ap (λ bs. readLines (partedBy newline (bs ++ rest))) (t .text-is)
+    ∙ ap readLines (parted-line (V-line (t .vertices)) (t .lines) rest)
+    ∙ read-first (t .vertices) (t .some-vertex) (t .vertex-limit) (parted-not-empty newline (printed (t .lines) ++ rest))
+    ∙ leads-on 2 rest (t .lead)
+
+pub spelt-reads : (text : List ℕ) (Y : Sheet) → Spells text Y → readText text ≡ complete Y
+unfolding readOn partedBy
+spelt-reads text Y t = ap readText (sym (append-nil text)) ∙ spelt-on text [] t
 
 -- the `V` line of a text that reads
 pub record First (l : Line) (n : ℕ) : Type 0 where
