@@ -39,3 +39,4 @@ pub mod SmallestNumber
 pub mod CallRefusals
 pub mod AnswerBounds
 pub mod ReadBounds
+pub mod LinePlaces
