@@ -24,7 +24,7 @@ pub fn each_byte(text: &[u8]) -> Vec<Vec<u8>> {
 
 /// The text with each line in turn dropped, moved to each place, and doubled at each place.
 pub fn each_line(text: &[u8]) -> Vec<Vec<u8>> {
-    let lines: Vec<&[u8]> = text.split_inclusive(|&byte| byte == b'\n').collect();
+    let lines = lines(text);
     let mut damaged = Vec::new();
     for from in 0..lines.len() {
         let mut dropped = lines.clone();
@@ -51,6 +51,24 @@ pub fn anywhere(random: &mut Random, text: &[u8]) -> Vec<u8> {
         };
     }
     text
+}
+
+/// The text with any one line dropped, doubled, or changed for another in its place.
+pub fn any_line(random: &mut Random, text: &[u8]) -> Vec<u8> {
+    let mut lines = lines(text);
+    let count = lines.len();
+    let at = random.below(count);
+    match random.below(3) {
+        0 => drop(lines.remove(at)),
+        1 => lines.insert(at, lines[at]),
+        _ => lines.swap(at, random.below(count)),
+    }
+    lines.concat()
+}
+
+/// The lines, each with its newline.
+fn lines(text: &[u8]) -> Vec<&[u8]> {
+    text.split_inclusive(|&byte| byte == b'\n').collect()
 }
 
 /// The text with so many bytes from a place on replaced.

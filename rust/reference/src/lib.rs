@@ -1,7 +1,8 @@
 //! A plain decoder, written from document 01's steps and sharing nothing with the proved one.
 //!
 //! Nothing here is clever or fast: each section of document 01 is one module, in its words. Beside
-//! them stand a seeded generator of random numbers and the boards that decoders are tried on.
+//! them stand a second way to find the number of a malformed line ([`line_numbers`]), a seeded
+//! generator of random numbers, and the boards that decoders are tried on.
 //!
 //! A set of vertices or edges is a slice with a byte for each, 0 or 1, as the calls are lent it.
 
@@ -12,6 +13,7 @@ pub mod decoding;
 pub mod distance;
 pub mod generators;
 pub mod growth;
+pub mod line_numbers;
 pub mod peeling;
 pub mod program;
 pub mod random;

@@ -4,7 +4,7 @@ use reference::board::{EDGE_LIMIT, Sheet};
 use reference::generators::{Kind, crowd, sheet};
 use reference::refusal::Refusal;
 use reference::text::{TEXT_LIMIT, read, write, write_into};
-use reference::{Random, generators};
+use reference::{Random, generators, line_numbers};
 
 fn refused(text: &str) -> (u8, u64) {
     let Refusal { number, place } = read(text.as_bytes()).expect_err(text);
@@ -47,6 +47,8 @@ fn first_malformed_line() {
     ];
     for (text, line) in texts {
         assert_eq!(refused(text), (13, line), "{text:?}");
+        let found = line_numbers::first_malformed_line(text.as_bytes());
+        assert_eq!(found, Some(line as usize), "{text:?}");
     }
 }
 
@@ -55,6 +57,7 @@ fn well_formed() {
     for text in ["V\t1\n", "V\t1024\n", "V\t2\nE\t0\t1\t3\nE\t0\t1\t3\nS\t0\nS\t1\nX\t0\nX\t1\n"] {
         let sheet = read(text.as_bytes()).expect(text);
         assert_eq!(write(&sheet), text.as_bytes());
+        assert_eq!(line_numbers::first_malformed_line(text.as_bytes()), None);
     }
 }
 
