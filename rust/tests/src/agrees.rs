@@ -6,6 +6,7 @@
 use reference::board::{Board, Sheet, size};
 use reference::decoding::decode_into;
 use reference::distance::distance_into;
+use reference::line_numbers::first_malformed_line;
 use reference::refusal;
 use reference::text::{self, write_into};
 use reference::torus::torus_into;
@@ -259,9 +260,16 @@ pub fn read_with(input: &[u8], lengths: Lengths) -> Result<Sheet, Refusal> {
     }
 }
 
-/// Reading a text into buffers of the right lengths.
+/// Reading a text into buffers of the right lengths. Where it isn't too long, the one refusal is of a
+/// malformed line, whose number is held against the newline bytes before it too.
 pub fn read(input: &[u8]) -> Result<Sheet, Refusal> {
-    read_with(input, Lengths::RIGHT)
+    let answer = read_with(input, Lengths::RIGHT);
+    if input.len() <= text::TEXT_LIMIT {
+        let malformed =
+            first_malformed_line(input).map(|line| Refusal { number: 13, place: line as u64 });
+        assert_eq!(answer.clone().err(), malformed, "{:?}", String::from_utf8_lossy(input));
+    }
+    answer
 }
 
 /// Writing a sheet's text into a buffer of this length.
