@@ -44,3 +44,9 @@ pub record FirstMalformed (text : List ℕ) (at : ℕ) : Type 0 where
   pub begins : LineBegins text at
   pub lines-before : (at ≡ 0) ⊎ IsText (take at text)
   pub with-this-line : IsText (take at text ++ firstLineOf (drop at text)) → ⊥
+
+-- .. and k is its number
+pub record FirstMalformedNumber (text : List ℕ) (k : ℕ) : Type 0 where
+  pub at : ℕ
+  pub first : FirstMalformed text at
+  pub numbered : k ≡ lineNumber text at

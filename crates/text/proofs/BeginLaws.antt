@@ -58,8 +58,8 @@ not-begun l p = go (firstLine (meant l)) refl p
     go none q p = q
     go (some i) q p = zero-one (cc)
 
-pub begun-on : (l : Line) → stage.Start ≡ begunWith l → ⊥
-begun-on l p = go (firstLine (meant l)) p
+pub begun-not-start : (l : Line) → stage.Start ≡ begunWith l → ⊥
+begun-not-start l p = go (firstLine (meant l)) p
   where
     go : (o : Option ℕ) → stage.Start ≡ withVertices o l → ⊥
     go none p = zero-one (cc)

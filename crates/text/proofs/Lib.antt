@@ -18,6 +18,8 @@ pub mod TakeLaws
 pub mod HoldLaws
 pub mod ProgressLaws
 pub mod StageLaws
+pub mod ReadState
 pub mod ReadOutcome
 pub mod WriteOutcome
 pub mod TextCalls
+pub mod ReadPlaces

@@ -16,8 +16,8 @@ use Rattle.text.specs.Scratch.{Sized, ReadsInto}
 use Rattle.text.specs.Stages.{taken, Within, Takes}
 use Rattle.text.proofs.NumberLaws.{first-number}
 use Rattle.text.proofs.ReadLaws.{LineIs, NoLine, line-is, no-line, no-first, first-malformed}
-use Rattle.text.proofs.BeginLaws.{is-begun, not-begun, begun-on}
-use Rattle.text.proofs.TakeLaws.{is-taken, not-taken, taken-on, stores}
+use Rattle.text.proofs.BeginLaws.{is-begun, not-begun, begun-not-start}
+use Rattle.text.proofs.TakeLaws.{is-taken, not-taken, taken-not-start, stores}
 use Rattle.text.proofs.ProgressLaws as progress
 use Rattle.text.proofs.ProgressLaws.{Progress, into-refused, begins, ends-malformed, ends-out-of-place, goes-further}
 
@@ -81,8 +81,8 @@ module _ (t E M S L : List ℕ) (at k : ℕ) (s : Stage) (w : Reached t E M S L 
     never-start r = go s (w .stands) (r .result)
       where
         go : (s : Stage) → Stands t E M S L at k s → stage.Start ≡ taken s l → ⊥
-        go stage.Start v p = begun-on l p
-        go (stage.Sheet n m last) v p = taken-on n m last l p
+        go stage.Start v p = begun-not-start l p
+        go (stage.Sheet n m last) v p = taken-not-start n m last l p
         go stage.Malformed v p = v
 
     pub untaken : Takes s l E M S L stage.Malformed E′ M′ S′ L′ → ReadsInto t (reading.Refused (MalformedLine k)) E′ M′ S′ L′

@@ -63,8 +63,8 @@ module _ (n m : ℕ) (last l : Line) where
       go true q p = zero-one (cc)
       go false q p = q
 
-  pub taken-on : stage.Start ≡ taken (stage.Sheet n m last) l → ⊥
-  taken-on p = go (mayStand n m (meant last) (meant l)) p
+  pub taken-not-start : stage.Start ≡ taken (stage.Sheet n m last) l → ⊥
+  taken-not-start p = go (mayStand n m (meant last) (meant l)) p
     where
       go : (b : Bool) → stage.Start ≡ cond b (stage.Sheet n (edgesWith m (meant l)) l) stage.Malformed → ⊥
       go true p = zero-one (cc)

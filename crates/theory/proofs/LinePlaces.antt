@@ -18,7 +18,7 @@ use Rattle.model.specs.Sums.{Set, bit, countUpTo}
 use Rattle.model.specs.Board.{Sheet}
 use Rattle.model.specs.Refusals.{placeOf}
 use Rattle.model.specs.Text.{newline, Line, V-line, printed, partedBy, lineFrom, Read, complete, refused, orMalformed, firstLine, begun, step, readOn, readLines, readText}
-use Rattle.model.specs.LineNumbers.{newlinesBefore, lineNumber, LineBegins, firstLineOf, IsText, FirstMalformed}
+use Rattle.model.specs.LineNumbers.{newlinesBefore, lineNumber, LineBegins, firstLineOf, IsText, FirstMalformed, FirstMalformedNumber}
 use Rattle.theory.proofs.Fields.{Without, nowhere, besides, parted-one, parted-first, NotEmpty, not-empty, parted-not-empty}
 use Rattle.theory.proofs.TextLines.{line-without}
 use Rattle.theory.proofs.TextReading.{refused-complete, Spells, spelt-on, reads-spelt}
@@ -214,16 +214,11 @@ always-malformed text n e =
     let q = refusal-is e (refused-line text n e .first) in
     q ∙ ap MalformedLine (sym (ap placeOf q))
 
--- the first malformed line begins at a position, and its number is k
-pub record Malformed (text : List ℕ) (k : ℕ) : Type 0 where
-  pub at : ℕ
-  pub first : FirstMalformed text at
-  pub place : k ≡ lineNumber text at
-
-pub malformed-place : (text : List ℕ) (k : ℕ) → readText text ≡ refused (MalformedLine k) → Malformed text k
+-- the place is that line's number
+pub malformed-place : (text : List ℕ) (k : ℕ) → readText text ≡ refused (MalformedLine k) → FirstMalformedNumber text k
 malformed-place text k e =
     let m = refused-line text (MalformedLine k) e in
-    record { at = m .at; first = m .first; place = ap placeOf (refusal-is e (m .first)) }
+    record { at = m .at; first = m .first; numbered = ap placeOf (refusal-is e (m .first)) }
 
 -- the first malformed line has one number
 pub one-number : (text : List ℕ) (i j : ℕ) → FirstMalformed text i → FirstMalformed text j → lineNumber text i ≡ lineNumber text j
