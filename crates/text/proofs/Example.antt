@@ -1,12 +1,13 @@
--- Document 01's example text and damaged ones, read by computation. Assumes nothing.
+-- Document 01's example text, its line numbers, and damaged ones, by computation. Assumes nothing.
 use Prim.Native.Nat.{ℕ}
 use mathlib.Core.Path.{_≡_, refl}
 use mathlib.Core.List.{List, [], _∷_, _++_}
-use Rattle.model.specs.Sums.{values, members}
+use Rattle.model.specs.Sums.{countUpTo, values, members}
 use Rattle.model.specs.Board.{Sheet}
+use Rattle.model.specs.LineNumbers.{newlinesBefore, lineNumber}
 use Rattle.model.specs.declared.refusal.Refusal.the-variants.{MalformedLine}
 use Rattle.model.specs.MarkedSheets.{ring, setOf, sheet}
-use Rattle.model.specs.Text.{Read, complete, refused, decimalUpTo, decimal, fieldsOf, bytesOf, printed, linesOf, textOf, partedBy, numberFrom, number, numbers, fromFields, lineFrom, step, readOn, readLines, readText}
+use Rattle.model.specs.Text.{complete, refused, decimalUpTo, decimal, fieldsOf, bytesOf, printed, linesOf, textOf, partedBy, numberFrom, number, numbers, fromFields, lineFrom, step, readOn, readLines, readText}
 
 -- the ring with vertices 0 and 3 in the syndrome
 ringSheet : Sheet
@@ -40,6 +41,11 @@ ring-written = refl
 ring-read : readText ringText ≡ complete ringSheet
 unfolding readText readLines readOn step lineFrom fromFields numbers number numberFrom partedBy ringSheet sheet setOf values ringText vertexLine edgeLines syndromeLines
 ring-read = refl
+
+-- its lines begin at 0, 4, 12, .., 40, and it ends at 44, where line 8 would begin
+ring-line-numbers : (lineNumber ringText 0 ≡ 1) × ((lineNumber ringText 4 ≡ 2) × ((lineNumber ringText 40 ≡ 7) × (lineNumber ringText 44 ≡ 8)))
+unfolding newlinesBefore countUpTo ringText vertexLine edgeLines syndromeLines
+ring-line-numbers = (refl, (refl, (refl, refl)))
 
 -- empty text; a last line without its newline; a leading zero; an `S` line after an `X` line; repeats; `V 1025`
 empty : readText [] ≡ refused (MalformedLine 1)

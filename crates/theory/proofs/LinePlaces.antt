@@ -224,10 +224,6 @@ malformed-place text k e =
 pub one-number : (text : List ℕ) (i j : ℕ) → FirstMalformed text i → FirstMalformed text j → lineNumber text i ≡ lineNumber text j
 one-number text i j f g = ap placeOf (refusal-is (first-malformed-refused text i f) g)
 
--- the empty text is malformed in line 1, which begins at 0
-pub empty-refused : readText [] ≡ refused (MalformedLine 1)
-unfolding readText readLines partedBy
-empty-refused = refl
-
+-- in the empty text it begins at 0
 pub empty-begins : (at : ℕ) → FirstMalformed [] at → at ≡ 0
 empty-begins at f = omega (arith, f .inside)
