@@ -1,9 +1,9 @@
 pub mod Searching
-pub mod Rows
+pub mod CopyLaws
+pub mod Failures
 pub mod Passing
 pub mod Validity
 pub mod Calls
-pub mod Counting
 pub mod Slots
 pub mod Listing
 pub mod Sorting

@@ -1,8 +1,7 @@
 -- What passes the tests is valid and has its length, and the reverse. Assumes nothing.
-use Prim.Native.Nat.{ℕ, _%_, _≤_, _<_}
+use Prim.Native.Nat.{ℕ, _*_, _%_, _≤_, _<_}
 use mathlib.Core.Path.{_≡_, refl}
 use mathlib.Core.Bool.{Bool, true, false, _&&_, _||_, true≢false}
-use mathlib.Core.Logic.{_≢_}
 use mathlib.Core.List.{List}
 use mathlib.Core.Option.{Option, none, some, Option·some-ne-none}
 use native.Mathlib.Omega.{arith}
@@ -12,12 +11,11 @@ use lib.Dec.{eqb, leb}
 use Rattle.model.specs.declared.refusal.Refusal.{Refusal}
 use Rattle.model.specs.declared.refusal.Refusal.the-variants.{VertexCount, EndCount, BufferLength, EndRange, EqualEnds, MarkRange}
 use Rattle.model.specs.Sums.{Set, firstUpTo}
-use Rattle.model.specs.Board.{Board, ValidBytes, edges, firstEnd, secondEnd, mark}
-use Rattle.model.specs.Refusals.{unless, refusedAt, firstPlace}
+use Rattle.model.specs.Board.{Board, Valid, ValidBytes, edges, firstEnd, vertexLimit, edgeLimit}
+use Rattle.model.specs.Refusals.{unless, refusedAt, firstPlace, outside, endsEqual, above, edgesOf, countRules, edgeRules}
 use Rattle.model.proofs.Xor.{and-left, and-right, and-both}
 use Rattle.model.proofs.SumLaws.{first-none, none-first}
-use Rattle.board.specs.Rules.{outside, equalEnds, above, countTests, edgeTests}
-use Rattle.board.proofs.Rows.{Each}
+use Rattle.board.proofs.Failures.{Each}
 
 -- a test by a flag passes exactly where the flag is set
 pub unless-passes : (ok : Bool) (n : Refusal) → unless ok n ≡ none → ok ≡ true
@@ -52,15 +50,15 @@ neither a b p q = rw (p, q)
 -- what the tests 1 to 3 say
 pub record Counted (vertices : ℕ) (ends : List ℕ) (fit : Bool) : Type 0 where
   pub some-vertex : 1 ≤ vertices
-  pub vertex-limit : vertices ≤ 1024
+  pub vertex-limit : vertices ≤ vertexLimit
   pub even : length ends % 2 ≡ 0
-  pub end-limit : length ends ≤ 8192
+  pub end-limit : length ends ≤ 2 * edgeLimit
   pub others : fit ≡ true
 
-pub counts-say : (vertices : ℕ) (ends : List ℕ) (fit : Bool) → Each (countTests vertices ends fit) → Counted vertices ends fit
+pub counts-say : (vertices : ℕ) (ends : List ℕ) (fit : Bool) → Each (countRules vertices ends fit) → Counted vertices ends fit
 counts-say vertices ends fit e =
-    let one = unless-passes (leb 1 vertices && leb vertices 1024) VertexCount (e .0) in
-    let two = unless-passes (eqb (length ends % 2) 0 && leb (length ends) 8192) EndCount (e .1 .0) in
+    let one = unless-passes (leb 1 vertices && leb vertices vertexLimit) VertexCount (e .0) in
+    let two = unless-passes (eqb (length ends % 2) 0 && leb (length ends) (2 * edgeLimit)) EndCount (e .1 .0) in
     record {
       some-vertex = leb-true _ _ (and-left (leb 1 vertices) _ one);
       vertex-limit = leb-true _ _ (and-right (leb 1 vertices) _ one);
@@ -69,7 +67,7 @@ counts-say vertices ends fit e =
       others = unless-passes fit BufferLength (e .1 .1 .0);
     }
 
-pub say-counts : (vertices : ℕ) (ends : List ℕ) (fit : Bool) → Counted vertices ends fit → Each (countTests vertices ends fit)
+pub say-counts : (vertices : ℕ) (ends : List ℕ) (fit : Bool) → Counted vertices ends fit → Each (countRules vertices ends fit)
 say-counts vertices ends fit k = (
   passes-unless _ VertexCount (and-both _ _ (le-leb _ _ (k .some-vertex)) (le-leb _ _ (k .vertex-limit))),
   (
@@ -78,31 +76,32 @@ say-counts vertices ends fit k = (
   ),
 )
 
--- what the tests 4 to 6 say
-pub record Edged (B : Board) : Type 0 where
-  pub first-in-range : (e : ℕ) → e < edges B → firstEnd B e < B .vertices
-  pub second-in-range : (e : ℕ) → e < edges B → secondEnd B e < B .vertices
-  pub ends-differ : (e : ℕ) → e < edges B → firstEnd B e ≢ secondEnd B e
-  pub mark-in-range : (e : ℕ) → e < edges B → mark B e ≤ 3
-
-pub edges-say : (B : Board) → Each (edgeTests B) → Edged B
-edges-say B t =
-    let inside = place-passes (edges B) (outside (B .vertices) (B .ends)) (λ e. EndRange (record { 0 = e })) (t .0) in
-    let differ = place-passes (edges B) (equalEnds (B .ends)) (λ e. EqualEnds (record { 0 = e })) (t .1 .0) in
+-- what the tests 4 to 6 say of a board whose counts have passed: it is valid
+pub edges-say : (B : Board) (fit : Bool) → Counted (B .vertices) (B .ends) fit → length (B .marks) ≡ edgesOf (B .ends) → Each (edgeRules B) → Valid B
+edges-say B fit k long t =
+    let inside = place-passes (edges B) (outside B) (λ e. EndRange (record { 0 = e })) (t .0) in
+    let differ = place-passes (edges B) (endsEqual B) (λ e. EqualEnds (record { 0 = e })) (t .1 .0) in
     let small = place-passes (edges B) (above 3 (B .marks)) (λ e. MarkRange (record { 0 = e })) (t .1 .1 .0) in
     record {
-      first-in-range = λ e h. leb-false _ _ (or-left (leb (B .vertices) (firstEnd B e)) _ (inside e h));
-      second-in-range = λ e h. leb-false _ _ (or-right (leb (B .vertices) (firstEnd B e)) _ (inside e h));
+      some-vertex = k .some-vertex;
+      inside =
+          record {
+            vertex-limit = k .vertex-limit;
+            edge-limit = omega arith;
+            two-ends = omega arith;
+            first-in-range = λ e h. leb-false _ _ (or-left (leb (B .vertices) (firstEnd B e)) _ (inside e h));
+            second-in-range = λ e h. leb-false _ _ (or-right (leb (B .vertices) (firstEnd B e)) _ (inside e h));
+          };
       ends-differ = λ e h. eqb-false _ _ (differ e h);
       mark-in-range = λ e h. ltb-false _ _ (small e h);
     }
 
-pub say-edges : (B : Board) → Edged B → Each (edgeTests B)
-say-edges B k = (
-  passes-place (edges B) (outside (B .vertices) (B .ends)) _ (λ e h. neither _ _ (lt-leb _ _ (k .first-in-range e h)) (lt-leb _ _ (k .second-in-range e h))),
+pub say-edges : (B : Board) → Valid B → Each (edgeRules B)
+say-edges B v = (
+  passes-place (edges B) (outside B) _ (λ e h. neither _ _ (lt-leb _ _ (v .inside .first-in-range e h)) (lt-leb _ _ (v .inside .second-in-range e h))),
   (
-    passes-place (edges B) (equalEnds (B .ends)) _ (λ e h. ne-eqb _ _ (k .ends-differ e h)),
-    (passes-place (edges B) (above 3 (B .marks)) _ (λ e h. le-ltb _ _ (k .mark-in-range e h)), tt),
+    passes-place (edges B) (endsEqual B) _ (λ e h. ne-eqb _ _ (v .ends-differ e h)),
+    (passes-place (edges B) (above 3 (B .marks)) _ (λ e h. le-ltb _ _ (v .mark-in-range e h)), tt),
   ),
 )
 

@@ -2,13 +2,11 @@
 use Prim.Native.Nat.{ℕ, _+_, _≤_, _<_}
 use mathlib.Core.Path.{_≡_, sym}
 use mathlib.Core.Bool.{true, false}
-use mathlib.Core.Option.{none, some}
+use mathlib.Core.Option.{Option, none, some}
 use native.Mathlib.Omega.{arith}
 use borrow.Author.Count.{below-more}
 use Rattle.model.specs.Sums.{Set, firstUpTo}
-use Rattle.model.proofs.SumLaws.{first-none, first-is}
-use Rattle.board.specs.declared.outcome.Found.{Found}
-use Rattle.board.specs.Outcome.{foundOf}
+use Rattle.model.proofs.SumLaws.{first-none, first-is, first-found}
 
 -- no number below i is in f
 pub record Passed (f : Set) (i : ℕ) : Type 0 where
@@ -31,6 +29,10 @@ ends-at n {f} {i} p h q = sym (first-is n f i (record { less = h; holds = q; bef
 pub ends-nowhere : (n : ℕ) {f : Set} {i : ℕ} → Passed f i → n ≤ i → none ≡ firstUpTo n f
 ends-nowhere n {f} {i} p h = sym (first-none n f (λ k l. p .out k (omega arith)))
 
+-- what a pass over n places finds is one of them
+pub found-below : (n : ℕ) (f : Set) {i : ℕ} → some i ≡ firstUpTo n f → i < n
+found-below n f {i} p = first-found n f i (sym p) .less
+
 -- what a pass over m places found, read as an answer on n places, where both counts are the same
-pub answered : (n m : ℕ) (f : Set) (r x : Found) → n ≡ m → foundOf r ≡ firstUpTo m f → r ≡ x → firstUpTo n f ≡ foundOf x
-answered n m f r x same e g = rw (same, ← e, g)
+pub answered : (n m : ℕ) (f : Set) (o x : Option ℕ) → n ≡ m → o ≡ firstUpTo m f → o ≡ x → firstUpTo n f ≡ x
+answered n m f o x same e g = rw (same, ← e, g)

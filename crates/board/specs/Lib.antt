@@ -1,3 +1,2 @@
-pub mod Outcome
-pub mod Rules
+pub mod Checks
 pub mod Incidence

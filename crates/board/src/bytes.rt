@@ -1,22 +1,54 @@
-use crate::outcome::Found;
+use crate::outcome::FoundEdge;
+use crate::outcome::FoundVertex;
+use model::numbers::Edge;
+use model::numbers::Vertex;
 ghost use mathlib.Core.Path.{_≡_};
 ghost use Prim.Native.Nat.{_≤_};
 ghost use lib.ListN.{length};
+ghost use Rattle.model.specs.Board.{vertexLimit, edgeLimit};
+ghost use Rattle.model.specs.Lent.{before};
+ghost use Rattle.model.specs.Refusals.{above};
 ghost use Rattle.model.specs.Sums.{firstUpTo};
-ghost use Rattle.board.specs.Outcome.{foundOf};
-ghost use Rattle.board.specs.Rules.{above};
+ghost use Rattle.board.specs.Checks.{placeFound, edgeFound, vertexFound};
+
+// Where a pass over bytes stops, if it does before the end.
+pub enum Place {
+    At(usize),
+    Nowhere,
+}
 
 // The first place whose byte is above the limit: the pass behind the tests 6 to 9.
-pub fn first_above(bytes: &[u8], limit: u8) -> Found
-    requires { ⌜ length (now bytes) ≤ 4096 ⌝ }
-    ensures { λ r. ⌜ foundOf r ≡ firstUpTo (length (now (bytes .entry))) (above limit (now (bytes .entry))) ⌝ }
+fn first_above(bytes: &[u8], limit: u8) -> Place
+    ensures { λ r. ⌜ placeFound r ≡ firstUpTo (length (before bytes)) (above limit (before bytes)) ⌝ }
 {
     let mut i = 0;
     while i < bytes.len() {
         if bytes[i] > limit {
-            return Found::At(i as u16);
+            return Place::At(i);
         }
         i += 1;
     }
-    Found::Nothing
+    Place::Nowhere
+}
+
+// The first edge whose byte is above the limit.
+pub fn edge_above(bytes: &[u8], limit: u8) -> FoundEdge
+    requires { ⌜ length (now bytes) ≤ edgeLimit ⌝ }
+    ensures { λ r. ⌜ edgeFound r ≡ firstUpTo (length (before bytes)) (above limit (before bytes)) ⌝ }
+{
+    match first_above(bytes, limit) {
+        Place::At(i) => FoundEdge::At(Edge(i as u16)),
+        Place::Nowhere => FoundEdge::Nothing,
+    }
+}
+
+// The first vertex whose byte is above the limit.
+pub fn vertex_above(bytes: &[u8], limit: u8) -> FoundVertex
+    requires { ⌜ length (now bytes) ≤ vertexLimit ⌝ }
+    ensures { λ r. ⌜ vertexFound r ≡ firstUpTo (length (before bytes)) (above limit (before bytes)) ⌝ }
+{
+    match first_above(bytes, limit) {
+        Place::At(i) => FoundVertex::At(Vertex(i as u16)),
+        Place::Nowhere => FoundVertex::Nothing,
+    }
 }

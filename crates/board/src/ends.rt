@@ -1,44 +1,52 @@
-use crate::outcome::Found;
+use crate::outcome::FoundEdge;
+use model::ends::first_end;
+use model::ends::second_end;
+use model::numbers::Edge;
 ghost use mathlib.Core.Path.{_≡_};
-ghost use Prim.Native.Nat.{_≤_};
+ghost use Prim.Native.Nat.{_*_, _≤_};
 ghost use lib.ListN.{length};
+ghost use Rattle.model.specs.Board.{edgeLimit, unmarked};
+ghost use Rattle.model.specs.Lent.{before};
+ghost use Rattle.model.specs.Refusals.{edgesOf, outside, endsEqual};
 ghost use Rattle.model.specs.Sums.{firstUpTo};
-ghost use Rattle.model.specs.Refusals.{edgesOf};
-ghost use Rattle.board.specs.Outcome.{foundOf};
-ghost use Rattle.board.specs.Rules.{outside, equalEnds};
+ghost use Rattle.board.specs.Checks.{edgeFound};
 
 // Test 4: the first edge that has an end at or above the vertex count.
-pub fn first_outside(vertices: usize, ends: &[u16]) -> Found
-    requires { ⌜ length (now ends) ≤ 8192 ⌝ }
-    ensures { λ r. ⌜ foundOf r ≡ firstUpTo (edgesOf (now (ends .entry))) (outside vertices (now (ends .entry))) ⌝ }
+pub fn first_outside(vertices: usize, ends: &[u16]) -> FoundEdge
+    requires { ⌜ length (now ends) ≤ 2 * edgeLimit ⌝ }
+    ensures { λ r. ⌜ edgeFound r ≡ firstUpTo (edgesOf (before ends)) (outside (unmarked vertices 0 (before ends))) ⌝ }
 {
     let edges = ends.len() / 2;
     let mut e = 0;
     while e < edges {
-        let i = 2 * e;
-        let first = ends[i] as usize;
-        let second = ends[i + 1] as usize;
-        if first >= vertices || second >= vertices {
-            return Found::At(e as u16);
+        let number = e as u16;
+        let edge = Edge(number);
+        let first = first_end(ends, edge);
+        let second = second_end(ends, edge);
+        if first.0 as usize >= vertices || second.0 as usize >= vertices {
+            return FoundEdge::At(edge);
         }
         e += 1;
     }
-    Found::Nothing
+    FoundEdge::Nothing
 }
 
 // Test 5: the first edge whose ends are equal.
-pub fn first_equal(ends: &[u16]) -> Found
-    requires { ⌜ length (now ends) ≤ 8192 ⌝ }
-    ensures { λ r. ⌜ foundOf r ≡ firstUpTo (edgesOf (now (ends .entry))) (equalEnds (now (ends .entry))) ⌝ }
+pub fn first_equal(ends: &[u16]) -> FoundEdge
+    requires { ⌜ length (now ends) ≤ 2 * edgeLimit ⌝ }
+    ensures { λ r. ⌜ edgeFound r ≡ firstUpTo (edgesOf (before ends)) (endsEqual (unmarked 0 0 (before ends))) ⌝ }
 {
     let edges = ends.len() / 2;
     let mut e = 0;
     while e < edges {
-        let i = 2 * e;
-        if ends[i] == ends[i + 1] {
-            return Found::At(e as u16);
+        let number = e as u16;
+        let edge = Edge(number);
+        let first = first_end(ends, edge);
+        let second = second_end(ends, edge);
+        if first.0 == second.0 {
+            return FoundEdge::At(edge);
         }
         e += 1;
     }
-    Found::Nothing
+    FoundEdge::Nothing
 }

@@ -1,7 +1,8 @@
-// The tests 1 to 9 on what is lent, in the order of their numbers, shared by every call; and the incidence lists of a board.
+// What the calls share: the tests 1 to 9 on what is lent, in the order of their numbers; copying into a lent buffer; the incidence lists of a board.
 pub mod bytes;
+pub mod copy;
 pub mod counts;
 pub mod ends;
 pub mod incidence;
-pub mod lent;
 pub mod outcome;
+pub mod tests;

@@ -1,3 +1,5 @@
+use model::numbers::Edge;
+use model::numbers::Vertex;
 use model::refusal::Refusal;
 
 // What a run of tests answers: all passed, or the first that failed with its place.
@@ -6,8 +8,14 @@ pub enum Check {
     Failed(Refusal),
 }
 
-// What a pass over a buffer finds: the first place that breaks the rule, or none.
-pub enum Found {
-    At(u16),
+// What a pass over the edges finds: the first that breaks the rule, or none.
+pub enum FoundEdge {
+    At(Edge),
+    Nothing,
+}
+
+// What a pass over the vertices finds.
+pub enum FoundVertex {
+    At(Vertex),
     Nothing,
 }

@@ -1,40 +1,33 @@
--- Decoding's pieces put together: each way out of `decode` meets decoding's outcome, and so demand 3.
--- Assumes nothing.
-use Prim.Native.Nat.{ℕ, _*_}
-use mathlib.Core.Path.{_≡_, refl, sym, ap, _∙_, subst, subst₂}
-use mathlib.Core.List.{List}
+-- Each way out of `decode` meets decoding's outcome, and so demand 3: a refusal writes nothing, and the key of the sheet without its marks
+-- is that of the sheet. Assumes nothing.
+use Prim.Native.Nat.{ℕ, _≤_}
+use mathlib.Core.Path.{_≡_, refl, sym, ap, _∙_, subst}
+use mathlib.Core.List.{List, _++_, append-nil}
 use mathlib.Core.Option.{Option, none, some}
 use native.Mathlib.Omega.{arith}
-use lib.ListN.{length, replicate, length-replicate}
+use lib.ListN.{length, drop, replicate, drop-of-length-le}
+use lib.Seq.{take-at}
 use Rattle.model.specs.declared.refusal.Refusal.{Refusal}
 use Rattle.model.specs.declared.answers.Decoded.{Decoded}
 use Rattle.model.specs.declared.answers.Decoded.the-variants.{Key, Refused}
-use Rattle.model.specs.Sums.{ones, bytes}
-use Rattle.model.specs.Board.{Board, Sheet, edges, boardOf, sheetOf}
-use Rattle.model.specs.Winding.{size}
-use Rattle.model.specs.Growth.{start, full, clusters, odd, growFrom, grown}
-use Rattle.model.specs.Correction.{correction}
-use Rattle.model.specs.Decoding.{smallestOdd, growths, supports, corrected}
-use Rattle.model.specs.Refusals.{noneAt, decodeRefusal}
-use Rattle.model.specs.Outcomes.{answer, keyOrNone, decodeAnswer, Decodes}
-use Rattle.model.specs.Demand3.{Demand3}
-use Rattle.board.specs.declared.outcome.Found.{Found}
-use Rattle.board.specs.declared.outcome.Found.the-variants.{At, Nothing}
-use Rattle.board.specs.Outcome.{foundOf}
+use Rattle.model.specs.Sums.{bit, ones, bytes}
+use Rattle.model.specs.Board.{Board, Sheet, EndsWithin, boardOf, sheetOf, edgeLimit}
+use Rattle.model.specs.Decoding.{supports, corrected}
+use Rattle.model.specs.Refusals.{decodeRefusal}
+use Rattle.model.specs.Outcomes.{answer, keyOrNone, decodeAnswer, Decodes, DecodesSoundly}
+use Rattle.model.proofs.ListLaws.{length-values, filled-long}
+use Rattle.board.proofs.CopyLaws.{copied}
 use Rattle.board.proofs.Calls.{ForDecoding, decode-passes}
-use Rattle.theory.proofs.Syndromes.{valid-in-range}
-use Rattle.theory.proofs.Supports.{start-supports, reached-supports}
-use Rattle.theory.proofs.Decodings.{passed-answer, none-answer, key-answer, key-reached, key-even}
+use Rattle.theory.proofs.MarksAside.{unmarked-long, supports-aside, corrected-aside, key-aside}
+use Rattle.theory.proofs.Supports.{reached-supports}
+use Rattle.theory.proofs.Decodings.{passed-answer, key-reached}
 use Rattle.theory.proofs.Demand3.{decodes-demand3}
-use Rattle.parts.specs.Lent.{Lent}
-use Rattle.parts.specs.Answer.{FirstOdd}
-use Rattle.parts.proofs.ValidSheets.{sheet-lent}
-use Rattle.peeling.specs.Peeling.{Peelable, NoOddCluster, Peels}
-use Rattle.decoder.specs.declared.book.Book.{Book}
-use Rattle.decoder.specs.Lent.{unmarked, Ends}
-use Rattle.decoder.specs.Gains.{Supports}
-use Rattle.decoder.specs.Runs.{Startable, Starts, Runnable, runOf, Runs}
-use Rattle.decoder.proofs.MarksAside.{clusters-aside, odd-aside, grown-aside, smallest-aside}
+use Rattle.decoder.specs.Keys.{bare, Keyable, Keys, writtenBytes}
+
+-- An array whose front is as long as a lent buffer, copied over it: all of it, or none of it.
+whole : (l rest old : List ℕ) (m : ℕ) → length l ≡ m → length old ≡ m → copied (l ++ rest) old m ≡ l
+whole l rest old m long same =
+    rw (take-at l rest m long, drop-of-length-le old {i = m} (omega arith)) (append-nil l)
 
 module _ (n : ℕ) (ends marks syndrome loss support written : List ℕ) where
   abbrev board : Board
@@ -48,12 +41,12 @@ module _ (n : ℕ) (ends marks syndrome loss support written : List ℕ) where
 
   -- both promises of decoding
   abbrev pub Promised : Decoded → List ℕ → List ℕ → Type 0
-  Promised r s k =
-      Decodes sheet support written r s k × (refusal ≡ none → Demand3 board (ones syndrome) (ones loss) r (ones k))
+  Promised r s k = Decodes sheet support written r s k × DecodesSoundly sheet support written r k
 
   -- the second follows from the first
   promised : {r : Decoded} {s k : List ℕ} → Decodes sheet support written r s k → Promised r s k
-  promised {r} {s} {k} d = (d, λ p. decodes-demand3 sheet support written r s k (decode-passes sheet support written p .sheet) p d)
+  promised {r} {s} {k} d =
+      (d, record { demand3 = λ p. decodes-demand3 sheet support written r s k (decode-passes sheet support written p .sheet) p d })
 
   -- a test fails
   pub refuses : (x : Refusal) → some x ≡ refusal → Promised (Refused x) support written
@@ -70,132 +63,78 @@ module _ (n : ℕ) (ends marks syndrome loss support written : List ℕ) where
     valid : ForDecoding sheet support written
     valid = decode-passes sheet support written (sym passed)
 
-    lent : Ends n (length marks) ends
-    lent =
-        let v = valid .sheet .board in
-        record { vertices = v .vertex-limit; edges = v .edge-limit; two = v .two-ends; first = v .first-in-range; second = v .second-in-range }
+    lost-long : length loss ≡ length marks
+    lost-long = valid .sheet .loss .count
 
-    loss-long : length loss ≡ length marks
-    loss-long = valid .sheet .loss .count
+    pub few : length loss ≤ edgeLimit
+    few = omega (arith, lost-long, valid .sheet .board .inside .edge-limit)
 
-    unmarked-long : (m : ℕ) → m ≡ length marks → length marks ≡ length {A = ℕ} (replicate m 0)
-    unmarked-long m p = sym p ∙ sym (length-replicate m 0)
+    -- the arrays' fronts take a key
+    pub keyable : (s k : List ℕ) → length s ≡ length loss → length k ≡ length loss → Keyable n ends syndrome loss s k
+    keyable s k long-s long-k =
+        record {
+          lent = subst (λ m. EndsWithin n m ends) (sym lost-long) (valid .sheet .board .inside);
+          lit = valid .sheet .syndrome;
+          support-long = long-s;
+          correction-long = long-k;
+        }
 
-    decodes-as : decodeAnswer sheet support written ≡ keyOrNone sheet
-    decodes-as = passed-answer sheet support written (sym passed)
+    -- as many bytes as an answer writes may be copied
+    pub fits : (r : Decoded) (count : ℕ) → count ≡ writtenBytes r (length loss) → (count ≤ length support) × (count ≤ length written) × (count ≤ edgeLimit)
+    fits (Key g e) count p = omega (arith, lost-long, valid .support-long, valid .correction-long, few)
+    fits (Refused x) count p = omega arith
 
-    -- Number 10
+    -- the marks do not matter
+    same : length marks ≡ length {A = ℕ} (replicate (length loss) 0)
+    same = unmarked-long (length loss) marks (sym lost-long)
 
-    pub parts-lent : Lent n ends syndrome
-    parts-lent = sheet-lent (valid .sheet)
+    result-is : {r : Decoded} → r ≡ keyOrNone (bare n ends syndrome loss) → r ≡ decodeAnswer sheet support written
+    result-is p = p ∙ sym (passed-answer sheet support written (sym passed) ∙ key-aside n ends marks _ same syndrome loss)
 
-    pub shows-odd : {x : Found} (v : ℕ) → x ≡ At v → FirstOdd n ends syndrome x → Promised (Refused (noneAt v)) support written
-    shows-odd v is f =
-        let smallest : some v ≡ smallestOdd board (ones syndrome) = ap foundOf (sym is) ∙ f .found marks (lent .two) in
+    supports-are : supports (bare n ends syndrome loss) ≡ supports sheet
+    supports-are = sym (supports-aside n ends marks _ same syndrome loss)
+
+    correction-is : bytes (length {A = ℕ} (replicate (length loss) 0)) (corrected (bare n ends syndrome loss)) ≡ bytes (length marks) (corrected sheet)
+    correction-is = rw (same, corrected-aside n ends marks _ same syndrome loss)
+
+    -- whatever is answered, the fronts keep their lengths
+    fronts-long : (r : Decoded) (s k s′ k′ : List ℕ) → length s ≡ length loss → length k ≡ length loss → Keys (bare n ends syndrome loss) s k r s′ k′
+        → (length s′ ≡ length loss) × (length k′ ≡ length loss)
+    fronts-long (Key g e) s k s′ k′ long-s long-k w = (
+      ap length (w .support-bytes ∙ supports-are)
+          ∙ reached-supports board (ones syndrome) (ones loss) (key-reached sheet) .long ∙ sym lost-long,
+      ap length (w .correction-bytes ∙ correction-is)
+          ∙ length-values (length marks) (λ i. bit (corrected sheet i)) ∙ sym lost-long,
+    )
+    fronts-long (Refused x) s k s′ k′ long-s long-k w = (ap length (w .support-bytes) ∙ long-s, ap length (w .correction-bytes) ∙ long-k)
+
+    -- so the arrays are whole, and as many bytes as the answer writes can be copied from them
+    pub arrays-long : (r : Decoded) (s k s′ k′ : List ℕ) → length s ≡ length loss → length k ≡ length loss → Keys (bare n ends syndrome loss) s k r s′ k′
+        → (length (s′ ++ drop (length loss) (replicate edgeLimit 0)) ≡ edgeLimit) × (length (k′ ++ drop (length loss) (replicate edgeLimit 0)) ≡ edgeLimit)
+    arrays-long r s k s′ k′ long-s long-k w =
+        let long = fronts-long r s k s′ k′ long-s long-k w in
+        (filled-long (length loss) edgeLimit s′ (long .0) few, filled-long (length loss) edgeLimit k′ (long .1) few)
+
+    pub copyable : (r : Decoded) (s k s′ k′ : List ℕ) (count : ℕ) → length s ≡ length loss → length k ≡ length loss → Keys (bare n ends syndrome loss) s k r s′ k′
+        → count ≡ writtenBytes r (length loss)
+        → (count ≤ length (s′ ++ drop (length loss) (replicate edgeLimit 0))) × (count ≤ length (k′ ++ drop (length loss) (replicate edgeLimit 0)))
+    copyable r s k s′ k′ count long-s long-k w p =
+        let long = arrays-long r s k s′ k′ long-s long-k w in
+        let room = fits r count p in
+        (omega (arith, long .0, room .2), omega (arith, long .1, room .2))
+
+    -- a key is copied whole, and of number 10 nothing
+    pub decodes : (r : Decoded) (s k s′ k′ rest rest′ : List ℕ) (count : ℕ) → length s ≡ length loss → length k ≡ length loss
+        → Keys (bare n ends syndrome loss) s k r s′ k′ → count ≡ writtenBytes r (length loss) → Promised r (copied (s′ ++ rest) support count) (copied (k′ ++ rest′) written count)
+    decodes (Key g e) s k s′ k′ rest rest′ count long-s long-k w p =
+        let grown = w .support-bytes ∙ supports-are in
+        let peeled = w .correction-bytes ∙ correction-is in
+        let long = fronts-long (Key g e) s k s′ k′ long-s long-k w in
         promised
         (record {
-          result = sym (decodes-as ∙ none-answer sheet v (sym smallest));
-          support-bytes = refl;
-          correction-bytes = refl;
+          result = result-is (w .result);
+          support-bytes = rw p (whole s′ rest support (length loss) (long .0) (valid .support-long ∙ sym lost-long) ∙ grown);
+          correction-bytes = rw p (whole k′ rest′ written (length loss) (long .1) (valid .correction-long ∙ sym lost-long) ∙ peeled);
         })
-
-    module _ {x : Found} (nothing : x ≡ Nothing) (even : FirstOdd n ends syndrome x) where
-      none-odd : smallestOdd board (ones syndrome) ≡ none
-      none-odd = sym (ap foundOf (sym nothing) ∙ even .found marks (lent .two))
-
-      -- Growth
-
-      pub startable : Startable n ends loss support
-      startable = record { lent = subst (λ m. Ends n m ends) (sym loss-long) lent; same-length = loss-long ∙ sym (valid .support-long) }
-
-      module _ (b : Book) (s : List ℕ) (begun : Starts n ends loss b s) where
-        abbrev bare : Board
-        bare = unmarked n (length loss) ends
-
-        started-long : length s ≡ length loss
-        started-long = ap length (begun .supports) ∙ start-supports bare (ones loss) .long ∙ length-replicate (length loss) 0
-
-        runnable-here : Runnable n (length loss) b ends syndrome s
-        runnable-here =
-            record {
-              steppable = record {
-                lent = startable .lent;
-                lit = valid .sheet .syndrome .count;
-                long = started-long;
-                supports = subst Supports (sym (begun .supports)) (record { small = λ e h. start-supports bare (ones loss) .bounded e (omega (arith, start-supports bare (ones loss) .long)) });
-                book = begun .book;
-              };
-              lost = ones loss;
-              begins = begun .supports;
-              none-odd = sym (smallest-aside n ends marks _ (unmarked-long (length loss) loss-long) (ones syndrome)) ∙ none-odd;
-            }
-
-        pub runnable : Runnable (b .vertices) (length s) b ends syndrome s
-        runnable = subst₂ (λ x y. Runnable x y b ends syndrome s) (sym (begun .book .vertices)) (sym started-long) runnable-here
-
-        -- the whole run is document 01's growth
-        run-is : runOf n (length loss) ends syndrome s ≡ grown board (ones syndrome) (ones loss)
-        unfolding grown
-        run-is =
-            ap (λ x. growFrom bare (ones syndrome) (2 * length loss) x 0) (begun .supports)
-            ∙ ap (λ m. growFrom bare (ones syndrome) (2 * m) (start bare (ones loss)) 0) (sym (length-replicate (length loss) 0))
-            ∙ sym (grown-aside n ends marks _ (unmarked-long (length loss) loss-long) (ones syndrome) (ones loss))
-
-        module _ (g : ℕ) (s′ : List ℕ) (there : Runs (b .vertices) (length s) ends syndrome s g s′) where
-          ran : Runs n (length loss) ends syndrome s g s′
-          ran = subst₂ (λ x y. Runs x y ends syndrome s g s′) (begun .book .vertices) started-long there
-
-          growths-are : g ≡ growths sheet
-          unfolding growths
-          growths-are = ran .growths ∙ ap (λ x. x .growths) run-is
-
-          supports-are : s′ ≡ supports sheet
-          unfolding supports
-          supports-are = ran .supports ∙ ap (λ x. x .support) run-is
-
-          grown-long : length s′ ≡ length marks
-          grown-long = ap length supports-are ∙ reached-supports board (ones syndrome) (ones loss) (key-reached sheet) .long
-
-          -- Peeling
-
-          -- growth has left no cluster odd, whatever the marks
-          even-clusters : (other : List ℕ) → length marks ≡ length other → NoOddCluster (boardOf n ends other) s′ syndrome
-          even-clusters other long =
-              record {
-                even = λ a h.
-                    sym (odd-aside n ends marks other long (clusters (boardOf n ends other) s′) (ones syndrome) a)
-                    ∙ ap (λ l. odd board l (ones syndrome) a) (sym (clusters-aside n ends marks other long s′) ∙ ap (clusters board) supports-are)
-                    ∙ key-even sheet (valid-in-range (valid .sheet .board)) none-odd .even a h;
-              }
-
-          pub peelable : Peelable n ends s′ syndrome written
-          peelable =
-              record {
-                lent = record {
-                  vertex-limit = lent .vertices;
-                  edge-limit = omega (arith, grown-long, lent .edges);
-                  two-ends = omega (arith, grown-long, lent .two);
-                  first-in-range = λ e h. lent .first e (omega (arith, grown-long));
-                  second-in-range = λ e h. lent .second e (omega (arith, grown-long));
-                };
-                syndrome-bytes = valid .sheet .syndrome .count;
-                correction-bytes = valid .correction-long ∙ sym grown-long;
-                even = λ other long. even-clusters other (sym grown-long ∙ sym long);
-              }
-
-          correction-is : correction board (full s′) (ones syndrome) ≡ corrected sheet
-          unfolding corrected
-          correction-is = ap (λ x. correction board (full x) (ones syndrome)) supports-are
-
-          pub keyed : (e : ℕ) (k : List ℕ) → Peels n ends s′ syndrome e k → Promised (Key g e) s′ k
-          keyed e k peels =
-              let w = peels .corrected marks (sym grown-long) in
-              promised
-              (record {
-                result =
-                    ap (λ x. Key x e) growths-are
-                    ∙ ap (Key (growths sheet)) (w .count ∙ ap (size board) correction-is)
-                    ∙ sym (decodes-as ∙ key-answer sheet none-odd);
-                support-bytes = supports-are;
-                correction-bytes = w .bytes-are ∙ ap (bytes (length marks)) correction-is;
-              })
+    decodes (Refused x) s k s′ k′ rest rest′ count long-s long-k w p =
+        rw p (promised (record { result = result-is (w .result); support-bytes = refl; correction-bytes = refl }))

@@ -8,17 +8,17 @@ use native.Mathlib.Nat.{le-refl}
 use native.Mathlib.Omega.{arith}
 use lib.ListN.{getD, length-replicate}
 use lib.Dec.{eqb}
+use Rattle.model.specs.Board.{unmarked}
 use Rattle.model.specs.Sums.{Set, someUpTo}
 use Rattle.model.specs.Components.{label}
 use Rattle.theory.proofs.Components.{labels-cong}
 use Rattle.union_find.specs.Joining.{sameRoot, Mirrors}
 use Rattle.decoder.specs.declared.book.Book.{Book}
 use Rattle.decoder.specs.declared.book.Fused.{Fused}
-use Rattle.decoder.specs.Lent.{unmarked}
 use Rattle.decoder.specs.Gains.{listed}
 use Rattle.decoder.specs.Books.{Good, BothKept, Fuses, withListed, Fusable, FusesListed}
-use Rattle.decoder.proofs.TreeLabelLaws.{lent-range}
-use Rattle.decoder.proofs.AddedEdge.{joinedBy, Adds, added-edge}
+use Rattle.theory.proofs.MarksAside.{unmarked-inside}
+use Rattle.theory.proofs.JoinedLabels.{joinedBy, Adds, added-edge}
 
 pub fuse-none : (b : Book) (ends filled : List ℕ) → Good b → FusesListed b ends filled 0 b
 unfolding someUpTo
@@ -40,8 +40,8 @@ module _ (b : Book) (ends filled : List ℕ) (k : ℕ) (now : Book) (w : FusesLi
   next-kept count h f x y p q =
       record {
         good = w .good;
-        first = omega (arith, w .vertices, f .lent .first (getD filled k 0) (f .listed k h));
-        second = omega (arith, w .vertices, f .lent .second (getD filled k 0) (f .listed k h));
+        first = omega (arith, w .vertices, f .lent .first-in-range (getD filled k 0) (f .listed k h));
+        second = omega (arith, w .vertices, f .lent .second-in-range (getD filled k 0) (f .listed k h));
       }
 
   -- the set with one more listed edge
@@ -57,13 +57,13 @@ module _ (b : Book) (ends filled : List ℕ) (k : ℕ) (now : Book) (w : FusesLi
         each = λ m F lent small mirrors.
             let e = small k (le-refl _) in
             let old = w .each m F lent (λ i h. small i (omega arith)) mirrors in
-            let a : x < b .vertices = omega (arith, lent .first (getD filled k 0) e) in
-            let c : y < b .vertices = omega (arith, lent .second (getD filled k 0) e) in
+            let a : x < b .vertices = omega (arith, lent .first-in-range (getD filled k 0) e) in
+            let c : y < b .vertices = omega (arith, lent .second-in-range (getD filled k 0) e) in
             record {
               same = λ u v hu hv.
                   f .one u v (omega (arith, w .vertices)) (omega (arith, w .vertices))
                   ∙ mirrored old u v x y hu hv a c
                   ∙ rw (p, q)
-                  (sym (added-edge (unmarked (b .vertices) m ends) (lent-range lent) (withListed F k filled) (getD filled k 0) (withListed F (suc k) filled) (adds m F e) u v hu hv));
+                  (sym (added-edge (unmarked (b .vertices) m ends) (unmarked-inside lent) (withListed F k filled) (getD filled k 0) (withListed F (suc k) filled) (adds m F e) u v hu hv));
             };
       }

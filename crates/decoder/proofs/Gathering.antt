@@ -1,10 +1,11 @@
 -- The full edges joined one after the other: the trees mirror the labels by the full edges passed. Assumes nothing.
 use Prim.Native.Nat.{ℕ, suc, _+_, _*_, _<_}
 use mathlib.Core.Path.{_≡_, refl, subst₂}
+use mathlib.Core.Bool.{true, false}
 use mathlib.Core.List.{List}
 use native.Mathlib.Omega.{arith}
 use lib.ListN.{getD, length-replicate}
-use borrow.Author.Tests.{eq-eqb, ne-eqb}
+use Rattle.model.specs.Board.{unmarked}
 use Rattle.model.specs.Components.{labelsUpTo, labels}
 use Rattle.model.specs.Growth.{full, clusters}
 use Rattle.theory.proofs.Components.{labels-length}
@@ -14,7 +15,6 @@ use Rattle.union_find.specs.Joining.{Joins, Mirrors}
 use Rattle.union_find.proofs.Fresh.{alone-trees}
 use Rattle.union_find.proofs.Unions.{joins-trees}
 use Rattle.union_find.proofs.Labels.{mirrors-alone, mirrors-joined, mirrors-passed}
-use Rattle.decoder.specs.Lent.{unmarked}
 use Rattle.decoder.specs.Books.{Holds}
 
 -- the full edges below k are joined
@@ -28,7 +28,7 @@ module _ (n m : ℕ) (ends s : List ℕ) where
 
   module _ (k : ℕ) {p q : List ℕ} (w : Gathering n m ends s k p q) where
     -- a full edge joins its ends
-    pub gather-full : getD s k 0 ≡ 2 → (a b : ℕ) → a ≡ getD ends (2 * k) 0 → b ≡ getD ends (2 * k + 1) 0 → a < n → b < n
+    pub gather-full : full s k ≡ true → (a b : ℕ) → a ≡ getD ends (2 * k) 0 → b ≡ getD ends (2 * k + 1) 0 → a < n → b < n
         → {r : Joined} {p′ q′ : List ℕ} → Joins p q a b r p′ q′ → Gathering n m ends s (suc k) p′ q′
     gather-full f a b is-a is-b ha hb {r} {p′} {q′} j =
         let e = subst₂ (λ x y. Joins p q x y r p′ q′) is-a is-b j in
@@ -36,12 +36,12 @@ module _ (n m : ℕ) (ends s : List ℕ) where
         let hy : getD ends (2 * k + 1) 0 < n = omega arith in
         record {
           trees = joins-trees (w .trees) hx hy e;
-          mirrors = mirrors-joined (unmarked n m ends) (full s) k (eq-eqb _ _ f) (w .mirrors) (w .trees) (omega (arith, labels-length (unmarked n m ends) (full s) k)) hx hy e;
+          mirrors = mirrors-joined (unmarked n m ends) (full s) k f (w .mirrors) (w .trees) (omega (arith, labels-length (unmarked n m ends) (full s) k)) hx hy e;
         }
 
     -- another joins nothing
-    pub gather-other : (getD s k 0 ≡ 2 → ⊥) → Gathering n m ends s (suc k) p q
-    gather-other f = record { trees = w .trees; mirrors = mirrors-passed (unmarked n m ends) (full s) k (ne-eqb _ _ f) (w .mirrors) }
+    pub gather-other : full s k ≡ false → Gathering n m ends s (suc k) p q
+    gather-other f = record { trees = w .trees; mirrors = mirrors-passed (unmarked n m ends) (full s) k f (w .mirrors) }
 
   -- the end
   pub gather-all : {p q : List ℕ} → Gathering n m ends s m p q → Holds n (record { vertices = n; parent = p; size = q }) (clusters (unmarked n m ends) s)

@@ -2,14 +2,14 @@
 -- full edges fused is that of the new clusters.
 -- Assumes nothing.
 use Prim.Native.Nat.{ℕ, _+_, _<_, min}
-use mathlib.Core.Path.{_≡_, sym, ap, ap₂, _∙_}
+use mathlib.Core.Path.{_≡_, sym, ap, _∙_}
 use mathlib.Core.List.{List}
 use native.Mathlib.Decide.{decLt}
 use native.Mathlib.Omega.{arith}
 use lib.ListN.{length, getD, length-replicate}
 use lib.Dec.{eqb}
 use Rattle.model.specs.Sums.{bit, values}
-use Rattle.model.specs.Board.{Board, edgeLimit, firstEnd, secondEnd}
+use Rattle.model.specs.Board.{Board, edgeLimit, firstEnd, secondEnd, unmarked}
 use Rattle.model.specs.Components.{label, within}
 use Rattle.model.specs.Growth.{full, clusters, grow}
 use Rattle.model.proofs.Bits.{bit-bound}
@@ -17,17 +17,13 @@ use Rattle.model.proofs.ListLaws.{values-cong}
 use Rattle.theory.proofs.Components.{labels-cong}
 use Rattle.union_find.specs.Trees.{rootOf}
 use Rattle.union_find.specs.Joining.{Mirrors}
+use Rattle.union_find.proofs.Labels.{mirrors-kept}
 use Rattle.decoder.specs.declared.book.Book.{Book}
 use Rattle.decoder.specs.declared.book.Found.{Found}
-use Rattle.decoder.specs.Lent.{unmarked}
 use Rattle.decoder.specs.TreeLabels.{Marks}
 use Rattle.decoder.specs.Gains.{Marked, lifted, Raisable, Raises, listed}
 use Rattle.decoder.specs.Books.{Finds, withListed, Fusable, FusesListed, Growable, Grows}
-use Rattle.decoder.proofs.TreeLabelLaws.{ends-limit}
-
--- the trees mirror the same labels where every vertex keeps its root
-pub mirrors-kept : {n : ℕ} {p p′ l : List ℕ} → ((u : ℕ) → u < n → rootOf p′ u ≡ rootOf p u) → Mirrors n p l → Mirrors n p′ l
-mirrors-kept same m = record { same = λ u v hu hv. ap₂ eqb (same u hu) (same v hv) ∙ m .same u v hu hv }
+use Rattle.model.proofs.EndLaws.{within-limit}
 
 module _ (b : Book) (ends : List ℕ) (a : ℕ) (s : List ℕ) (g : Growable b ends a s) where
   abbrev n : ℕ
@@ -48,7 +44,7 @@ module _ (b : Book) (ends : List ℕ) (a : ℕ) (s : List ℕ) (g : Growable b e
     marked = record { small = λ v h. elim (decLt v n) [ yes i ↦ rw (w .at v i) (bit-bound (eqb (rootOf (b .parent) v) (rootOf (b .parent) a))) | no i ↦ omega (arith, w .others v (omega arith)) ] }
 
     pub raisable : (filled : List ℕ) → length filled ≡ edgeLimit → Raisable ends marks s filled
-    raisable filled room = record { lent = ends-limit (g .lent); marks = marked; supports = g .supports; room = room }
+    raisable filled room = record { lent = within-limit (g .lent); marks = marked; supports = g .supports; room = room }
 
     module _ (filled s′ : List ℕ) (count : ℕ) (r : Raises ends marks s s′ filled count) where
       -- the supports are document 01's
@@ -60,10 +56,10 @@ module _ (b : Book) (ends : List ℕ) (a : ℕ) (s : List ℕ) (g : Growable b e
           ∙ ap (λ k. values k (λ e. min 2 (getD s e 0 + bit (within l a (firstEnd B e)) + bit (within l a (secondEnd B e))))) (sym (length-replicate {A = ℕ} (length s) 0))
         where
           each : (e : ℕ) → e < length s → lifted ends marks s e ≡ min 2 (getD s e 0 + bit (within l a (firstEnd B e)) + bit (within l a (secondEnd B e)))
-          each e h = omega (arith, mark-is (firstEnd B e) (g .lent .first e h), mark-is (secondEnd B e) (g .lent .second e h))
+          each e h = omega (arith, mark-is (firstEnd B e) (g .lent .first-in-range e h), mark-is (secondEnd B e) (g .lent .second-in-range e h))
 
       pub fusable : Fusable b ends filled count
-      fusable = record { good = g .good; edges = length s; lent = g .lent; few = omega (arith, r .few, g .lent .edges); listed = r .edges }
+      fusable = record { good = g .good; edges = length s; lent = g .lent; few = omega (arith, r .few, g .lent .edge-limit); listed = r .edges }
 
       module _ (book : Book) (f : FusesListed b ends filled count book) (found : Found) (k : Finds book a found) where
         -- the full edges are those before and the listed ones

@@ -1,6 +1,5 @@
-pub mod Stores
-pub mod Exposing
 pub mod Tallying
+pub mod Exposing
 pub mod Choosing
 pub mod Raising
 pub mod BookLaws
@@ -8,9 +7,8 @@ pub mod Gathering
 pub mod TreeNames
 pub mod TreeLabelLaws
 pub mod ChoiceLaws
-pub mod AddedEdge
 pub mod Fusing
 pub mod GrowthStep
-pub mod MarksAside
 pub mod RunLaws
+pub mod Keying
 pub mod DecodeLaws

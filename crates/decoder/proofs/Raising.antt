@@ -45,9 +45,9 @@ pub record Raising (ends inside s₀ : List ℕ) (k : ℕ) (s filled : List ℕ)
   pub becomes-full : (e : ℕ) → e < k → full s e ≡ (full s₀ e || listed count filled e)
 
 pub liftable : {ends inside s₀ s filled₀ filled : List ℕ} {k count : ℕ} → Raisable ends inside s₀ filled₀ → Raising ends inside s₀ k s filled count → k < length s₀ → Liftable ends inside s k
-liftable {k = k} r w h =
+liftable {s₀ = s₀} {k = k} r w h =
     record {
-      gainable = record { lent = omega (arith, r .lent); first = r .lent .first k h; second = r .lent .second k h; marks = r .marks };
+      gainable = record { edges = length s₀; lent = r .lent; edge = h; marks = r .marks };
       edge = omega (arith, w .supports .long);
       small = omega (arith, w .supports .rest k (omega arith), r .supports .small k h);
     }
@@ -65,17 +65,19 @@ raise-none ends inside s filled p =
 -- One edge
 
 pub gains-bound : {ends inside : List ℕ} {e : ℕ} → Gainable ends inside e → gains ends inside e ≤ 2
-gains-bound g = omega (arith, g .marks .small _ (g .first), g .marks .small _ (g .second))
+gains-bound {e = e} g =
+    omega (arith, g .marks .small _ (g .lent .first-in-range e (g .edge)), g .marks .small _ (g .lent .second-in-range e (g .edge)))
 
 -- a full edge stays as it is
-pub lift-full : (ends inside s : List ℕ) (e : ℕ) → getD s e 0 ≡ 2 → Lifts ends inside s e false s
+pub lift-full : (ends inside s : List ℕ) (e : ℕ) → full s e ≡ true → Lifts ends inside s e false s
 lift-full ends inside s e p =
-    let q : lifted ends inside s e ≡ getD s e 0 = omega arith in
-    record { support = rw q (sym (set-getD s e 0)); becomes-full = rw (eq-eqb _ _ p) }
+    let q : lifted ends inside s e ≡ getD s e 0 = omega (arith, eqb-true (getD s e 0) 2 p) in
+    record { support = rw q (sym (set-getD s e 0)); becomes-full = rw p }
 
 -- another gains up to 2
-pub lift-other : (ends inside s : List ℕ) (e after : ℕ) → (getD s e 0 ≡ 2 → ⊥) → after ≡ lifted ends inside s e → Lifts ends inside s e (eqb after 2) (set s e after)
-lift-other ends inside s e after p q = record { support = ap (set s e) q; becomes-full = rw (ne-eqb _ _ p) (ap (λ x. eqb x 2) q) }
+pub lift-other : (ends inside s : List ℕ) (e after : ℕ) (r : Bool) → full s e ≡ false → after ≡ lifted ends inside s e → r ≡ eqb after 2
+    → Lifts ends inside s e r (set s e after)
+lift-other ends inside s e after r p q is = record { support = ap (set s e) q; becomes-full = rw p (is ∙ ap (λ x. eqb x 2) q) }
 
 -- lifting takes no support back: an edge is full after it where it was before, or where it becomes full
 lift-keeps : (ends inside s : List ℕ) (e : ℕ) → eqb (lifted ends inside s e) 2 ≡ (full s e || (not (full s e) && eqb (lifted ends inside s e) 2))

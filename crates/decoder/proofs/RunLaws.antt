@@ -1,42 +1,34 @@
 -- The pieces of decoding meet document 01: the start, one step, and the run until no cluster is odd. Assumes nothing.
 use Prim.Native.Nat.{ℕ, suc, _*_, _-_, _≤_, _<_}
 use mathlib.Core.Path.{_≡_, refl, sym, ap, _∙_, subst, subst₂}
-use mathlib.Core.Bool.{true, false, cond, _&&_, false≢true}
+use mathlib.Core.Bool.{true, false, cond, false≢true}
 use mathlib.Core.List.{List}
 use mathlib.Core.Option.{Option, none, some}
 use native.Mathlib.Omega.{arith}
 use lib.ListN.{length, length-replicate}
-use borrow.Author.Tests.{eqb-true}
 use Rattle.model.specs.Sums.{Set, ones, values}
-use Rattle.model.specs.Board.{Board}
-use Rattle.model.specs.Components.{label, labels, within}
-use Rattle.model.specs.Growth.{start, full, clusters, odd, grow, growFrom}
+use Rattle.model.specs.Board.{Board, unmarked, EndsWithin}
+use Rattle.model.specs.Growth.{start, full, clusters, grow, growFrom}
 use Rattle.model.specs.Decoding.{smallestOdd}
-use Rattle.model.proofs.Xor.{and-right}
 use Rattle.model.proofs.ListLaws.{length-values}
-use Rattle.theory.proofs.Parity.{odd-found}
-use Rattle.theory.proofs.Syndromes.{InRange}
-use Rattle.theory.proofs.Components.{part-own}
-use Rattle.theory.proofs.GrowthRun.{OddPart, choice-odd, Reached, begin, after, run-stops, run-grows}
+use Rattle.theory.proofs.GrowthRun.{OddPart, odd-named, choice-odd, Reached, begin, after, run-stops, run-grows}
 use Rattle.theory.proofs.GrowthBound.{growth-left}
 use Rattle.theory.proofs.Supports.{reached-supports}
 use Rattle.decoder.specs.declared.book.Book.{Book}
 use Rattle.decoder.specs.declared.book.Found.{Found}
 use Rattle.decoder.specs.declared.growth.Stepped.{Stepped}
-use Rattle.decoder.specs.Lent.{unmarked, Ends}
 use Rattle.decoder.specs.Gains.{Supports, startOf}
-use Rattle.decoder.specs.Choices.{Choosable}
 use Rattle.decoder.specs.Books.{Holds, Growable, Grows}
 use Rattle.decoder.specs.Runs.{Startable, Starts, Steppable, choiceOn, isSome, Steps, Runnable, runOf, Runs}
-use Rattle.decoder.proofs.TreeLabelLaws.{lent-range}
+use Rattle.theory.proofs.MarksAside.{unmarked-inside}
 
 -- The start
 
 start-length : (loss : List ℕ) → length (startOf loss) ≡ length loss
 start-length loss = length-values (length loss) (λ e. cond (ones loss e) 2 0)
 
-pub started-lent : {n : ℕ} {ends loss s₀ s : List ℕ} → Startable n ends loss s₀ → s ≡ startOf loss → Ends n (length s) ends
-started-lent {n} {ends} {loss} w p = subst (λ m. Ends n m ends) (sym (ap length p ∙ start-length loss)) (w .lent)
+pub started-lent : {n : ℕ} {ends loss s₀ s : List ℕ} → Startable n ends loss s₀ → s ≡ startOf loss → EndsWithin n (length s) ends
+started-lent {n} {ends} {loss} w p = subst (λ m. EndsWithin n m ends) (sym (ap length p ∙ start-length loss)) (w .lent)
 
 pub starts : {n : ℕ} {ends loss s : List ℕ} {r : Book} → s ≡ startOf loss → Holds n r (clusters (unmarked n (length s) ends) s) → Starts n ends loss r s
 unfolding start
@@ -48,20 +40,9 @@ starts {n} {ends} {loss} {s} {r} p h =
 
 -- One step
 
--- an odd cluster is named by its label
-odd-named : (B : Board) (F S : Set) → InRange B → (a : ℕ) → OddPart B (labels B F) S a → label (labels B F) a ≡ a
-unfolding odd
-odd-named B F S r a o =
-    let x = odd-found (B .vertices) (λ v. S v && within (labels B F) a v) (o .is-odd) in
-    let q : label (labels B F) (x .at) ≡ a = eqb-true _ _ (and-right (S (x .at)) _ (x .holds)) in
-    ap (label (labels B F)) (sym q) ∙ part-own B F r (x .at) (x .less) ∙ q
-
 module _ {b : Book} {ends syndrome s : List ℕ} (w : Steppable (b .vertices) (length s) b ends syndrome s) where
   abbrev B : Board
   B = unmarked (b .vertices) (length s) ends
-
-  pub choosable : Choosable (b .vertices) (b .parent) ends syndrome s
-  choosable = record { rooted = record { size = b .size; climbs = w .book .good .climbs }; lent = w .lent; lit = w .lit; mirrors = w .book .mirrors }
 
   pub growable : {a : ℕ} → choiceOn (b .vertices) (length s) ends syndrome s ≡ some a → Growable b ends a s
   unfolding clusters
@@ -73,7 +54,7 @@ module _ {b : Book} {ends syndrome s : List ℕ} (w : Steppable (b .vertices) (l
         good = w .book .good;
         mirrors = w .book .mirrors;
         vertex = o .below;
-        named = odd-named B (full s) (ones syndrome) (lent-range (w .lent)) a o;
+        named = odd-named B (full s) (ones syndrome) (unmarked-inside (w .lent)) a o;
       }
 
   pub steps-end : none ≡ choiceOn (b .vertices) (length s) ends syndrome s → Steps (b .vertices) (length s) ends syndrome s (record { book = b; grew = false }) s
@@ -148,7 +129,7 @@ module _ {n m : ℕ} {ends syndrome s₀ s : List ℕ} {b : Book} {g : ℕ} (w :
     odd-at x = choice-odd board s (clusters board s) (ones syndrome) (x .at) (x .is)
 
     pub growths-left : r .grew ≡ true → g < 2 * m
-    growths-left p = omega (arith, growth-left board (lent-range (w .steppable .lent)) (ones syndrome) (w .lost) (w .none-odd) (w .reached) (odd-at (grew-at p)), length-replicate {A = ℕ} m 0)
+    growths-left p = omega (arith, growth-left board (unmarked-inside (w .steppable .lent)) (ones syndrome) (w .lost) (w .none-odd) (w .reached) (odd-at (grew-at p)), length-replicate {A = ℕ} m 0)
 
     pub run-more : r .grew ≡ true → Running n m ends syndrome s₀ s′ (r .book) (suc g)
     run-more p =

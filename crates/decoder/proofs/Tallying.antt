@@ -12,7 +12,7 @@ use Rattle.model.specs.Board.{vertexLimit}
 use Rattle.model.specs.Components.{label, within}
 use Rattle.model.proofs.SumLaws.{count-bound}
 use Rattle.decoder.specs.Tallies.{Tallies}
-use Rattle.decoder.proofs.Stores.{getD-set}
+use Rattle.model.proofs.ListLaws.{getD-set}
 
 pub tally-none : (labels members : List ℕ) (n : ℕ) → n ≡ vertexLimit → Tallies 0 labels members (replicate n 0)
 unfolding countUpTo

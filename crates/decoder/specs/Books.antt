@@ -6,14 +6,13 @@ use mathlib.Core.Bool.{Bool, _&&_, _||_}
 use mathlib.Core.List.{List}
 use lib.ListN.{length, getD}
 use Rattle.model.specs.Sums.{Set}
-use Rattle.model.specs.Board.{edgeLimit}
+use Rattle.model.specs.Board.{edgeLimit, unmarked, EndsWithin}
 use Rattle.model.specs.Components.{label, labels}
 use Rattle.model.specs.Growth.{clusters, grow}
 use Rattle.model.specs.declared.numbers.Vertex.{Vertex}
 use Rattle.union_find.specs.declared.Joined.the-variants.{Hung}
 use Rattle.union_find.specs.Trees.{at, rootOf, Trees, Alone, Compressed}
 use Rattle.union_find.specs.Joining.{joined, sameRoot, Mirrors}
-use Rattle.decoder.specs.Lent.{unmarked, Ends}
 use Rattle.decoder.specs.Gains.{Supports, listed}
 use Rattle.decoder.specs.declared.book.Book.{Book}
 use Rattle.decoder.specs.declared.book.Found.{Found}
@@ -72,7 +71,7 @@ pub record Fuses (b : Book) (x y : ℕ) (r : Fused) : Type 0 where
 pub record Fusable (b : Book) (ends filled : List ℕ) (count : ℕ) : Type 0 where
   pub good : Good b
   pub edges : ℕ
-  pub lent : Ends (b .vertices) edges ends
+  pub lent : EndsWithin (b .vertices) edges ends
   pub few : count ≤ edgeLimit
   pub listed : (i : ℕ) → i < count → getD filled i 0 < edges
 
@@ -85,13 +84,13 @@ pub record FusesListed (b : Book) (ends filled : List ℕ) (k : ℕ) (r : Book) 
   pub vertices : r .vertices ≡ b .vertices
   pub good : Good r
   pub each :
-      (m : ℕ) (F : Set) → Ends (b .vertices) m ends → ((i : ℕ) → i < k → getD filled i 0 < m) →
+      (m : ℕ) (F : Set) → EndsWithin (b .vertices) m ends → ((i : ℕ) → i < k → getD filled i 0 < m) →
       Mirrors (b .vertices) (b .parent) (labels (unmarked (b .vertices) m ends) F) →
       Mirrors (b .vertices) (r .parent) (labels (unmarked (b .vertices) m ends) (withListed F k filled))
 
 -- the book is that of the clusters of the supports, and the vertex is its cluster's label
 pub record Growable (b : Book) (ends : List ℕ) (a : ℕ) (s : List ℕ) : Type 0 where
-  pub lent : Ends (b .vertices) (length s) ends
+  pub lent : EndsWithin (b .vertices) (length s) ends
   pub supports : Supports s
   pub good : Good b
   pub mirrors : Mirrors (b .vertices) (b .parent) (clusters (unmarked (b .vertices) (length s) ends) s)

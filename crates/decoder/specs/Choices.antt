@@ -8,12 +8,11 @@ use mathlib.Core.Option.{Option, none, some}
 use lib.ListN.{length, getD}
 use lib.Dec.{eqb, ltb}
 use mathlib.Core.Path.{_≡_}
+use Rattle.union_find.specs.Trees.{Rooted}
 use Rattle.model.specs.Sums.{Set, ones}
-use Rattle.model.specs.Board.{vertexLimit}
+use Rattle.model.specs.Board.{vertexLimit, unmarked, EndsWithin}
 use Rattle.model.specs.Growth.{clusters, choice}
 use Rattle.union_find.specs.Joining.{Mirrors}
-use Rattle.decoder.specs.Lent.{unmarked, Ends}
-use Rattle.decoder.specs.TreeLabels.{Rooted}
 use Rattle.decoder.specs.declared.choice.Chosen.{Chosen}
 use Rattle.decoder.specs.declared.choice.Chosen.the-variants.{Cluster, Nothing}
 
@@ -46,7 +45,7 @@ pub record Sized (n : ℕ) (sizes : List ℕ) : Type 0 where
 -- the trees are the clusters of the supports on the lent board
 pub record Choosable (n : ℕ) (parent ends syndrome s : List ℕ) : Type 0 where
   pub rooted : Rooted n parent
-  pub lent : Ends n (length s) ends
+  pub lent : EndsWithin n (length s) ends
   pub lit : length syndrome ≡ n
   pub mirrors : Mirrors n parent (clusters (unmarked n (length s) ends) s)
 

@@ -7,9 +7,8 @@ use mathlib.Core.List.{List}
 use lib.ListN.{length, getD, set}
 use lib.Dec.{eqb}
 use Rattle.model.specs.Sums.{Set, ones, someUpTo, values}
-use Rattle.model.specs.Board.{vertexLimit, edgeLimit}
+use Rattle.model.specs.Board.{vertexLimit, edgeLimit, EndsWithin}
 use Rattle.model.specs.Growth.{full}
-use Rattle.decoder.specs.Lent.{Ends}
 
 -- a cluster's vertices are marked: 1 inside, 0 outside
 pub record Marked (inside : List ℕ) : Type 0 where
@@ -23,11 +22,11 @@ gains ends inside e = getD inside (getD ends (2 * e) 0) 0 + getD inside (getD en
 abbrev pub lifted : List ℕ → List ℕ → List ℕ → ℕ → ℕ
 lifted ends inside s e = min 2 (getD s e 0 + gains ends inside e)
 
--- edge e is lent, and its ends have a mark
+-- e is an edge whose ends have a mark
 pub record Gainable (ends inside : List ℕ) (e : ℕ) : Type 0 where
-  pub lent : 2 * e + 1 < length ends
-  pub first : getD ends (2 * e) 0 < vertexLimit
-  pub second : getD ends (2 * e + 1) 0 < vertexLimit
+  pub edges : ℕ
+  pub lent : EndsWithin vertexLimit edges ends
+  pub edge : e < edges
   pub marks : Marked inside
 
 -- and it has a support
@@ -46,7 +45,7 @@ pub record Supports (s : List ℕ) : Type 0 where
   pub small : (e : ℕ) → e < length s → getD s e 0 ≤ 2
 
 pub record Raisable (ends inside s filled : List ℕ) : Type 0 where
-  pub lent : Ends vertexLimit (length s) ends
+  pub lent : EndsWithin vertexLimit (length s) ends
   pub marks : Marked inside
   pub supports : Supports s
   pub room : length filled ≡ edgeLimit

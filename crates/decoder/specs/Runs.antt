@@ -6,17 +6,17 @@ use mathlib.Core.Bool.{Bool, true, false}
 use mathlib.Core.List.{List}
 use mathlib.Core.Option.{Option, none, some}
 use lib.ListN.{length}
+use Rattle.model.specs.Board.{unmarked, EndsWithin}
 use Rattle.model.specs.Sums.{Set, ones}
 use Rattle.model.specs.Growth.{start, clusters, choice, grow, Grown, chosen, growFrom}
 use Rattle.model.specs.Decoding.{smallestOdd}
 use Rattle.decoder.specs.declared.book.Book.{Book}
 use Rattle.decoder.specs.declared.growth.Stepped.{Stepped}
-use Rattle.decoder.specs.Lent.{unmarked, Ends}
 use Rattle.decoder.specs.Gains.{Supports}
 use Rattle.decoder.specs.Books.{Holds}
 
 pub record Startable (n : ℕ) (ends loss s : List ℕ) : Type 0 where
-  pub lent : Ends n (length loss) ends
+  pub lent : EndsWithin n (length loss) ends
   pub same-length : length loss ≡ length s
 
 -- the supports of document 01's step 1, and the book of their clusters
@@ -26,7 +26,7 @@ pub record Starts (n : ℕ) (ends loss : List ℕ) (r : Book) (s : List ℕ) : T
 
 -- the book is that of the clusters of the supports, on a board with n vertices and m edges
 pub record Steppable (n m : ℕ) (b : Book) (ends syndrome s : List ℕ) : Type 0 where
-  pub lent : Ends n m ends
+  pub lent : EndsWithin n m ends
   pub lit : length syndrome ≡ n
   pub long : length s ≡ m
   pub supports : Supports s

@@ -8,12 +8,7 @@ use lib.Dec.{eqb}
 use Rattle.model.specs.Sums.{bit}
 use Rattle.model.specs.Board.{vertexLimit}
 use Rattle.model.specs.Components.{label}
-use Rattle.union_find.specs.Trees.{rootOf, Climbs}
-
--- the first n vertices have roots
-pub record Rooted (n : ℕ) (parent : List ℕ) : Type 0 where
-  pub size : List ℕ
-  pub climbs : Climbs n parent size
+use Rattle.union_find.specs.Trees.{rootOf, Rooted}
 
 -- and v is one of them
 pub record RootedAt (n : ℕ) (parent : List ℕ) (v : ℕ) : Type 0 where

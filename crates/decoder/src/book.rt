@@ -1,11 +1,9 @@
-use crate::ends::first_end;
-use crate::ends::second_end;
 use crate::labels::tree_of;
-use crate::support::FULL;
 use crate::support::raise;
-use model::limits::EDGES;
-use model::limits::VERTICES;
+use model::ends::first_end;
+use model::ends::second_end;
 use model::numbers::Edge;
+use model::numbers::HalfEdges;
 use model::numbers::Vertex;
 use union_find::Joined;
 use union_find::alone;
@@ -14,16 +12,16 @@ use union_find::join;
 use union_find::root_of;
 ghost use Prim.Native.Nat.{_≤_};
 ghost use lib.ListN.{length};
-ghost use Rattle.model.specs.Board.{vertexLimit};
+ghost use Rattle.model.specs.Lent.{before, after};
+ghost use Rattle.model.specs.Board.{vertexLimit, unmarked, EndsWithin};
 ghost use Rattle.model.specs.Growth.{clusters};
-ghost use Rattle.decoder.specs.Lent.{unmarked, Ends};
 ghost use Rattle.decoder.specs.Books.{Fresh, Holds, Kept, Finds, BothKept, Fuses, Fusable, FusesListed, Growable, Grows};
 
 // The cluster book: a union-find over the first `vertices` vertices. A vertex's cluster is its tree.
 pub(crate) struct Book {
     pub(crate) vertices: usize,
-    pub(crate) parent: [u16; VERTICES],
-    pub(crate) size: [u16; VERTICES],
+    pub(crate) parent: [u16; Book::VERTICES],
+    pub(crate) size: [u16; Book::VERTICES],
 }
 
 // A book, and the root of the vertex that was looked for.
@@ -60,15 +58,18 @@ impl Book {
 
     // The book of the clusters that the full edges make.
     pub(crate) fn gathered(vertices: usize, ends: &[u16], support: &[u8]) -> Self
-        requires { ⌜ Ends vertices (length (now support)) (now ends) ⌝ }
-        ensures { λ r. ⌜ Holds vertices r (clusters (unmarked vertices (length (now (support .entry))) (now (ends .entry))) (now (support .entry))) ⌝ }
+        requires { ⌜ EndsWithin vertices (length (now support)) (now ends) ⌝ }
+        ensures { λ r.
+            ⌜ Holds vertices r (clusters (unmarked vertices (length (before support)) (before ends)) (before support)) ⌝ }
     {
         let fresh = Self::fresh(vertices);
         let mut parent = fresh.parent;
         let mut size = fresh.size;
         let mut e = 0;
         while e < support.len() {
-            if support[e] == FULL {
+            let byte = support[e];
+            let half = HalfEdges(byte);
+            if half.is_full() {
                 let number = e as u16;
                 let edge = Edge(number);
                 let a = first_end(ends, edge);
@@ -126,7 +127,7 @@ impl Book {
     // The ends of each of the first `count` listed edges fused.
     fn fuse_listed(self, ends: &[u16], filled: &[u16; Self::EDGES], count: usize) -> Book
         requires { ⌜ Fusable self (now ends) (now filled) count ⌝ }
-        ensures { λ r. ⌜ FusesListed self (now (ends .entry)) (now (filled .entry)) count r ⌝ }
+        ensures { λ r. ⌜ FusesListed self (before ends) (before filled) count r ⌝ }
     {
         let mut book = self;
         let mut i = 0;
@@ -145,7 +146,7 @@ impl Book {
     // cluster, up to 2. Then clusters joined by newly full edges fuse. The answer is the root of the cluster that has grown.
     pub(crate) fn grow(self, ends: &[u16], cluster: Vertex, support: &mut [u8]) -> Found
         requires { ⌜ Growable self (now ends) (cluster .0) (now support) ⌝ }
-        ensures { λ r. ⌜ Grows self (now (ends .entry)) (cluster .0) (now (support .entry)) r (now (support .exit)) ⌝ }
+        ensures { λ r. ⌜ Grows self (before ends) (cluster .0) (before support) r (after support) ⌝ }
     {
         let inside = tree_of(self.vertices, &self.parent, cluster);
         let mut filled = [0u16; Self::EDGES];

@@ -1,9 +1,10 @@
-use crate::exposure::exposure;
+use crate::boundary::boundaries;
 use crate::labels::labels_of;
 use crate::tally::tally;
 use model::limits::VERTICES;
 use model::numbers::Vertex;
 ghost use mathlib.Core.Path.{_≡_};
+ghost use Rattle.model.specs.Lent.{before};
 ghost use Rattle.decoder.specs.Choices.{chosenOf, oddAt, sizeAt, leastUpTo, Sized, Choosable, chosenCluster};
 
 // The cluster that grows, by its smallest vertex, if any is odd.
@@ -13,13 +14,13 @@ pub(crate) enum Chosen {
 }
 
 // More than any boundary size.
-const UNBOUNDED: u16 = 1025;
+const UNBOUNDED: u16 = VERTICES as u16 + 1;
 
 // The odd cluster with the smallest boundary; among equals, the one with the smallest label. Entry a of each array is the number of
 // syndrome vertices and the boundary size of the cluster labelled a.
 fn least(vertices: usize, lit: &[u16; VERTICES], boundary: &[u16; VERTICES]) -> Chosen
     requires { ⌜ Sized vertices (now boundary) ⌝ }
-    ensures { λ r. ⌜ chosenOf r ≡ leastUpTo vertices (oddAt (now (lit .entry))) (sizeAt (now (boundary .entry))) ⌝ }
+    ensures { λ r. ⌜ chosenOf r ≡ leastUpTo vertices (oddAt (before lit)) (sizeAt (before boundary)) ⌝ }
 {
     let mut chosen = Vertex(0);
     let mut size = UNBOUNDED;
@@ -49,11 +50,10 @@ pub(crate) fn choose(
     support: &[u8],
 ) -> Chosen
     requires { ⌜ Choosable vertices (now parent) (now ends) (now syndrome) (now support) ⌝ }
-    ensures { λ r. ⌜ chosenOf r ≡ chosenCluster vertices (now (ends .entry)) (now (syndrome .entry)) (now (support .entry)) ⌝ }
+    ensures { λ r. ⌜ chosenOf r ≡ chosenCluster vertices (before ends) (before syndrome) (before support) ⌝ }
 {
     let labels = labels_of(vertices, parent);
     let lit = tally(&labels, syndrome);
-    let exposed = exposure(ends, support);
-    let boundary = tally(&labels, &exposed[..vertices]);
+    let boundary = boundaries(&labels, ends, support);
     least(vertices, &lit, &boundary)
 }

@@ -3,12 +3,13 @@ use crate::choice::Chosen;
 use crate::choice::choose;
 use crate::support::lose;
 ghost use lib.ListN.{length};
+ghost use Rattle.model.specs.Lent.{before, after};
 ghost use Rattle.decoder.specs.Runs.{Startable, Starts, Steppable, Steps, Runnable, Runs};
 
 // The supports before any growth, and the book of their clusters.
 pub(crate) fn start(vertices: usize, ends: &[u16], loss: &[u8], support: &mut [u8]) -> Book
     requires { ⌜ Startable vertices (now ends) (now loss) (now support) ⌝ }
-    ensures { λ r. ⌜ Starts vertices (now (ends .entry)) (now (loss .entry)) r (now (support .exit)) ⌝ }
+    ensures { λ r. ⌜ Starts vertices (before ends) (before loss) r (after support) ⌝ }
 {
     lose(loss, support);
     Book::gathered(vertices, ends, support)
@@ -23,7 +24,9 @@ pub(crate) struct Stepped {
 // One choice and one growth, or neither: if no cluster is odd, growth ends.
 pub(crate) fn step(book: Book, ends: &[u16], syndrome: &[u8], support: &mut [u8]) -> Stepped
     requires { ⌜ Steppable (book .vertices) (length (now support)) book (now ends) (now syndrome) (now support) ⌝ }
-    ensures { λ r. ⌜ Steps (book .vertices) (length (now (support .entry))) (now (ends .entry)) (now (syndrome .entry)) (now (support .entry)) r (now (support .exit)) ⌝ }
+    ensures { λ r.
+        ⌜ Steps (book .vertices) (length (before support)) (before ends) (before syndrome) (before support)
+        r (after support) ⌝ }
 {
     match choose(book.vertices, &book.parent, ends, syndrome, support) {
         Chosen::Nothing => Stepped { book, grew: false },
@@ -41,7 +44,9 @@ pub(crate) fn step(book: Book, ends: &[u16], syndrome: &[u8], support: &mut [u8]
 // Steps until no cluster is odd. Returns how often a cluster has grown.
 pub(crate) fn run(start: Book, ends: &[u16], syndrome: &[u8], support: &mut [u8]) -> usize
     requires { ⌜ Runnable (start .vertices) (length (now support)) start (now ends) (now syndrome) (now support) ⌝ }
-    ensures { λ r. ⌜ Runs (start .vertices) (length (now (support .entry))) (now (ends .entry)) (now (syndrome .entry)) (now (support .entry)) r (now (support .exit)) ⌝ }
+    ensures { λ r.
+        ⌜ Runs (start .vertices) (length (before support)) (before ends) (before syndrome) (before support)
+        r (after support) ⌝ }
 {
     let mut book = start;
     let mut growths = 0;

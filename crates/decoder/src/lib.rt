@@ -1,33 +1,25 @@
 // Decoding: tests, the parts of the whole board, growth on the cluster book, and peeling.
-use crate::growth::run;
-use crate::growth::start;
-use board::lent::check_decode;
-use board::outcome::Check;
-use board::outcome::Found;
-use model::answers::Decoded;
-use model::numbers::Vertex;
-use model::refusal::Refusal;
-use parts::first_odd;
-use peeling::peel;
-ghost use mathlib.Core.Path.{_≡_};
-ghost use mathlib.Core.Option.{none};
-ghost use Rattle.model.specs.Sums.{ones};
-ghost use Rattle.model.specs.Refusals.{decodeRefusal};
-ghost use Rattle.model.specs.Outcomes.{Decodes};
-ghost use Rattle.model.specs.Demand3.{Demand3};
-ghost use Rattle.model.specs.Board.{boardOf, sheetOf};
-
 mod book;
+mod boundary;
 mod choice;
-mod ends;
-mod exposure;
 mod growth;
+mod key;
 mod labels;
 mod support;
 mod tally;
 
+use crate::key::key;
+use crate::key::written;
+use board::copy::copy_bytes;
+use board::outcome::Check;
+use board::tests::check_decode;
+use model::answers::Decoded;
+use model::limits::EDGES;
+ghost use Rattle.model.specs.Lent.{before, after, sheetLent};
+ghost use Rattle.model.specs.Outcomes.{Decodes, DecodesSoundly};
+
 // The key: the growth count and the number of correction edges, with a support byte and a correction byte for each edge; or a refusal,
-// which writes nothing.
+// which writes nothing. The key is made in arrays, of which as many bytes are copied as the answer writes.
 pub fn decode(
     vertices: usize,
     ends: &[u16],
@@ -37,8 +29,12 @@ pub fn decode(
     support: &mut [u8],
     correction: &mut [u8],
 ) -> Decoded
-    ensures key { λ r. ⌜ Decodes (sheetOf (boardOf vertices (now (ends .entry)) (now (marks .entry))) (now (syndrome .entry)) (now (loss .entry))) (now (support .entry)) (now (correction .entry)) r (now (support .exit)) (now (correction .exit)) ⌝ }
-    ensures sound { λ r. ⌜ (decodeRefusal (sheetOf (boardOf vertices (now (ends .entry)) (now (marks .entry))) (now (syndrome .entry)) (now (loss .entry))) (now (support .entry)) (now (correction .entry)) ≡ none → Demand3 (boardOf vertices (now (ends .entry)) (now (marks .entry))) (ones (now (syndrome .entry))) (ones (now (loss .entry))) r (ones (now (correction .exit)))) ⌝ }
+    ensures key { λ r.
+        ⌜ Decodes (sheetLent vertices ends marks syndrome loss) (before support) (before correction)
+        r (after support) (after correction) ⌝ }
+    ensures sound { λ r.
+        ⌜ DecodesSoundly (sheetLent vertices ends marks syndrome loss) (before support) (before correction)
+        r (after correction) ⌝ }
 {
     if let Check::Failed(refusal) = check_decode(
         vertices,
@@ -51,11 +47,19 @@ pub fn decode(
     ) {
         return Decoded::Refused(refusal);
     }
-    if let Found::At(v) = first_odd(vertices, ends, syndrome) {
-        return Decoded::Refused(Refusal::NoCorrection(Vertex(v)));
-    }
-    let book = start(vertices, ends, loss, support);
-    let growths = run(book, ends, syndrome, support);
-    let edges = peel(vertices, ends, support, syndrome, correction);
-    Decoded::Key { growths, edges }
+    let edges = loss.len();
+    let mut new_support = [0u8; EDGES];
+    let mut new_correction = [0u8; EDGES];
+    let decoded = key(
+        vertices,
+        ends,
+        syndrome,
+        loss,
+        &mut new_support[..edges],
+        &mut new_correction[..edges],
+    );
+    let count = written(decoded, edges);
+    copy_bytes(&new_support, count, support);
+    copy_bytes(&new_correction, count, correction);
+    decoded
 }

@@ -1,58 +1,60 @@
-use crate::ends::first_end;
-use crate::ends::second_end;
+use model::ends::first_end;
+use model::ends::second_end;
 use model::limits::EDGES;
 use model::limits::VERTICES;
 use model::numbers::Edge;
+use model::numbers::FULL;
 use model::numbers::HalfEdges;
 ghost use mathlib.Core.Path.{_≡_};
 ghost use Prim.Native.Nat.{_+_, _≤_, min};
 ghost use lib.ListN.{length};
-ghost use Rattle.model.specs.Board.{vertexLimit};
-ghost use Rattle.decoder.specs.Lent.{Ends};
+ghost use Rattle.model.specs.Lent.{before, after};
 ghost use Rattle.decoder.specs.Gains.{Gainable, gains, Liftable, Lifts, Raisable, Raises, startOf};
 
-// An edge at 2 is full.
-pub(crate) const FULL: u8 = 2;
-
-// How many ends the edge has in the cluster, which is marked by a 1 for each of its vertices.
+// As many half-edges as the edge has ends in the cluster, which is marked by a 1 for each of its vertices.
 fn gain(ends: &[u16], inside: &[u8; VERTICES], edge: Edge) -> HalfEdges
     requires { ⌜ Gainable (now ends) (now inside) (edge .0) ⌝ }
-    ensures { λ r. ⌜ r .0 ≡ gains (now (ends .entry)) (now (inside .entry)) (edge .0) ⌝ }
+    ensures { λ r. ⌜ r .0 ≡ gains (before ends) (before inside) (edge .0) ⌝ }
 {
     let a = first_end(ends, edge);
     let b = second_end(ends, edge);
     let x = inside[a.0 as usize];
     let y = inside[b.0 as usize];
-    let sum = x + y;
-    HalfEdges(sum)
+    if x != y {
+        return HalfEdges(1);
+    }
+    if x == 1 {
+        return HalfEdges(2); // an inner edge
+    }
+    HalfEdges(0)
 }
 
-// The support after a gain: up to 2.
+// The support after a gain: up to that of a full edge.
 fn raised(support: HalfEdges, gain: HalfEdges) -> HalfEdges
     requires { ⌜ (support .0 ≤ 2) × (gain .0 ≤ 2) ⌝ }
     ensures { λ r. ⌜ r .0 ≡ min 2 (support .0 + gain .0) ⌝ }
 {
     let sum = support.0 + gain.0;
-    if sum < FULL {
+    if sum < FULL.0 {
         return HalfEdges(sum);
     }
-    HalfEdges(FULL)
+    HalfEdges(FULL.0)
 }
 
 // An edge that isn't full gains as many half-edges as it has ends in the cluster. Says whether it becomes full.
 fn lift(ends: &[u16], inside: &[u8; VERTICES], support: &mut [u8], edge: Edge) -> bool
     requires { ⌜ Liftable (now ends) (now inside) (now support) (edge .0) ⌝ }
-    ensures { λ r. ⌜ Lifts (now (ends .entry)) (now (inside .entry)) (now (support .entry)) (edge .0) r (now (support .exit)) ⌝ }
+    ensures { λ r. ⌜ Lifts (before ends) (before inside) (before support) (edge .0) r (after support) ⌝ }
 {
     let e = edge.0 as usize;
     let byte = support[e];
     let before = HalfEdges(byte);
-    if before.0 == FULL {
+    if before.is_full() {
         return false;
     }
     let after = raised(before, gain(ends, inside, edge));
     support[e] = after.0;
-    after.0 == FULL
+    after.is_full()
 }
 
 // One growth of the cluster: lifts every edge. The edges that become full are listed, rising, and their number is returned.
@@ -63,7 +65,7 @@ pub(crate) fn raise(
     filled: &mut [u16; EDGES],
 ) -> usize
     requires { ⌜ Raisable (now ends) (now inside) (now support) (now filled) ⌝ }
-    ensures { λ r. ⌜ Raises (now (ends .entry)) (now (inside .entry)) (now (support .entry)) (now (support .exit)) (now (filled .exit)) r ⌝ }
+    ensures { λ r. ⌜ Raises (before ends) (before inside) (before support) (after support) (after filled) r ⌝ }
 {
     let mut count = 0;
     let mut e = 0;
@@ -82,12 +84,12 @@ pub(crate) fn raise(
 // Lost edges start at 2, others at 0.
 pub(crate) fn lose(loss: &[u8], support: &mut [u8])
     requires { ⌜ length (now loss) ≡ length (now support) ⌝ }
-    ensures { λ r. ⌜ now (support .exit) ≡ startOf (now (loss .entry)) ⌝ }
+    ensures { λ r. ⌜ after support ≡ startOf (before loss) ⌝ }
 {
     let mut e = 0;
     while e < loss.len() {
         if loss[e] == 1 {
-            support[e] = FULL;
+            support[e] = FULL.0;
         } else {
             support[e] = 0;
         }

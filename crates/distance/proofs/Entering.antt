@@ -4,6 +4,7 @@ use mathlib.Core.Path.{_≡_, sym, ap, _∙_}
 use mathlib.Core.Bool.{true}
 use mathlib.Core.Logic.{_≢_}
 use native.Mathlib.Nat.{le-refl, not-suc-le-zero}
+use native.Mathlib.Decide.{ℕ-discrete}
 use native.Mathlib.Omega.{arith}
 use borrow.Author.Count.{below-more}
 use borrow.Author.Tests.{lt-ltb, le-ltb}
@@ -12,16 +13,14 @@ use Rattle.model.specs.Sums.{countUpTo}
 use Rattle.model.specs.Board.{Board, Valid, edges}
 use Rattle.model.specs.Syndrome.{touches}
 use Rattle.model.proofs.SumLaws.{count-none}
+use Rattle.model.proofs.CountLaws.{count-room, count-more}
 use Rattle.distance.specs.States.{across}
 use Rattle.distance.specs.Search.{states, home, Kept, Tree, Place, entered, Queue, Near, Done, Search}
-use Rattle.distance.proofs.Cases.{same-or}
 use Rattle.distance.proofs.StateLaws.{across-bound, across-touches, across-back}
-use Rattle.distance.proofs.Counting.{count-room, count-more}
 use Rattle.distance.proofs.Storing.{Put}
 
 -- The state across edge e from x, which was not met, is entered: one deeper than x, and with that edge.
 pub record Enters (B : Board) (D D′ K K′ : ℕ → ℕ) (x e : ℕ) : Type 0 where
-  pub inside : x < states B
   pub met : 1 ≤ D x
   pub edge : e < edges B
   pub touch : touches B e (x / 4) ≡ true
@@ -29,7 +28,7 @@ pub record Enters (B : Board) (D D′ K K′ : ℕ → ℕ) (x e : ℕ) : Type 0
   pub depth : Put D D′ (across B x e) (suc (D x))
   pub kept : Put K K′ (across B x e) e
 
-module _ (B : Board) (valid : Valid B) (s : ℕ) (D D′ K K′ : ℕ → ℕ) (x e : ℕ) (new : Enters B D D′ K K′ x e) where
+module _ {B : Board} {D D′ K K′ : ℕ → ℕ} {x e : ℕ} (new : Enters B D D′ K K′ x e) where
   -- what was met keeps its depth
   pub stays : (j : ℕ) → 1 ≤ D j → D′ j ≡ D j
   stays j h = new .depth .else j (λ q. omega (arith, ap D q, new .fresh))
@@ -40,7 +39,7 @@ module _ (B : Board) (valid : Valid B) (s : ℕ) (D D′ K K′ : ℕ → ℕ) (
       let there = stays (across B z f) (n .met) in
       record { met = omega (arith, n .met); close = omega (arith, n .close) }
 
-  pub done-stays : (z : ℕ) → 1 ≤ D z → Done B D z → Done B D′ z
+  done-stays : (z : ℕ) → 1 ≤ D z → Done B D z → Done B D′ z
   done-stays z h d = record { near = λ f l t. near-stays z f h (d .near f l t) }
 
   -- the new state is near
@@ -69,18 +68,20 @@ module _ (B : Board) (valid : Valid B) (s : ℕ) (D D′ K K′ : ℕ → ℕ) (
         above = rw (k, across-back B x e (new .touch), stays x (new .met)) (sym (new .depth .here));
       }
 
-  pub entered-tree : Tree B s D K → Tree B s D′ K′
-  entered-tree tree =
+  pub entered-tree : {s : ℕ} → Tree B s D K → Tree B s D′ K′
+  entered-tree {s} tree =
       record {
         start = stays (home s) (omega (arith, tree .start)) ∙ tree .start;
         root = λ y h q.
-            same-or (across B x e) y
-            (λ r. absurd (omega (arith, ap D′ r, new .depth .here, new .met)))
-            (λ r. tree .root y h (sym (new .depth .else y r) ∙ q));
+            elim (ℕ-discrete y (across B x e)) [
+              | yes r ↦ absurd (omega (arith, ap D′ r, new .depth .here, new .met))
+              | no r ↦ tree .root y h (sym (new .depth .else y r) ∙ q)
+            ];
         kept = λ y h l.
-            same-or (across B x e) y
-            (λ r. rw r kept-new)
-            (λ r. let m : 2 ≤ D y = omega (arith, new .depth .else y r) in kept-stays y r m (tree .kept y h m));
+            elim (ℕ-discrete y (across B x e)) [
+              | yes r ↦ rw r kept-new
+              | no r ↦ let m : 2 ≤ D y = omega (arith, new .depth .else y r) in kept-stays y r m (tree .kept y h m)
+            ];
       }
 
 -- a state that was not met has room in the queue
@@ -89,28 +90,39 @@ queue-room {B} {D} q y l fresh =
     omega (arith, q .count, count-room (states B) y (entered D) l (le-ltb 0 (D y) (omega arith)))
 
 -- the head of the queue leads to a new state, which goes to its end
-module _ (B : Board) (valid : Valid B) (D D′ K K′ Q Q′ : ℕ → ℕ) (h t e : ℕ) (some : h < t) (new : Enters B D D′ K K′ (Q h) e) (put : Put Q Q′ t (across B (Q h) e)) (queue : Queue B D Q h t) where
+module _
+    {B : Board}
+    {D D′ K K′ Q Q′ : ℕ → ℕ}
+    {h t e : ℕ}
+    (valid : Valid B)
+    (queue : Queue B D Q h t)
+    (some : h < t)
+    (new : Enters B D D′ K K′ (Q h) e)
+    (put : Put Q Q′ t (across B (Q h) e)) where
   old-at : (i : ℕ) → i < t → D′ (Q′ i) ≡ D (Q i)
-  old-at i l =
-      ap D′ (put .else i (λ q. omega arith))
-      ∙ stays B valid 0 D D′ K K′ (Q h) e new (Q i) (queue .met i l)
+  old-at i l = ap D′ (put .else i (λ q. omega arith)) ∙ stays new (Q i) (queue .met i l)
 
   new-at : D′ (Q′ t) ≡ suc (D (Q h))
   new-at = ap D′ (put .here) ∙ new .depth .here
 
   new-place : (y : ℕ) → y < states B → 1 ≤ D′ y → Place Q′ (t + 1) y
   new-place y l m =
-      same-or (across B (Q h) e) y
-      (λ r. record { index = t; less = omega arith; here = put .here ∙ sym r })
-      (λ r.
-      let p : Place Q t y = queue .place y l (omega (arith, new .depth .else y r)) in
-      record { index = p .index; less = omega (arith, p .less); here = put .else (p .index) (λ q. omega (arith, p .less)) ∙ p .here })
+      elim (ℕ-discrete y (across B (Q h) e)) [
+        | yes r ↦ record { index = t; less = omega arith; here = put .here ∙ sym r }
+        | no r ↦
+            let p : Place Q t y = queue .place y l (omega (arith, new .depth .else y r)) in
+            record { index = p .index; less = omega (arith, p .less); here = put .else (p .index) (λ q. omega (arith, p .less)) ∙ p .here }
+      ]
 
   new-rising : (i j : ℕ) → i ≤ j → j < t + 1 → D′ (Q′ i) ≤ D′ (Q′ j)
   new-rising i j l m =
       below-more (λ j. i ≤ j → D′ (Q′ i) ≤ D′ (Q′ j)) t
       (λ j m l. omega (arith, old-at i (omega arith), old-at j m, queue .rising i j l m))
-      (λ l. same-or t i (λ q. rw q (le-refl _)) (λ q. let m : i < t = omega arith in omega (arith, old-at i m, new-at, queue .close i m some)))
+      (λ l.
+      elim (ℕ-discrete i t) [
+        | yes q ↦ rw q (le-refl _)
+        | no q ↦ let m : i < t = omega arith in omega (arith, old-at i m, new-at, queue .close i m some)
+      ])
       j m l
 
   new-count : countUpTo (states B) (entered D′) ≡ t + 1
@@ -122,7 +134,7 @@ module _ (B : Board) (valid : Valid B) (D D′ K K′ Q Q′ : ℕ → ℕ) (h t
       (λ j d. ap (λ n. ltb 0 n) (new .depth .else j d))
       ∙ omega (arith, queue .count)
 
-  pub entered-queue : Queue B D′ Q′ h (t + 1)
+  entered-queue : Queue B D′ Q′ h (t + 1)
   entered-queue =
       record {
         order = omega arith;
@@ -144,17 +156,16 @@ module _ (B : Board) (valid : Valid B) (D D′ K K′ Q Q′ : ℕ → ℕ) (h t
 
   -- and the walk goes on, if that is not the start on another copy
   pub entered-search : {s : ℕ} → Search B s D K Q h t → (across B (Q h) e / 4 ≡ s → ⊥) → Search B s D′ K′ Q′ h (t + 1)
-  entered-search {s} search apart =
+  entered-search search apart =
       record {
-        tree = entered-tree B valid s D D′ K K′ (Q h) e new (search .tree);
+        tree = entered-tree new (search .tree);
         queue = entered-queue;
-        done = λ i l.
-            rw (put .else i (λ q. omega arith))
-            (done-stays B valid s D D′ K K′ (Q h) e new (Q i) (queue .met i (omega arith)) (search .done i l));
+        done = λ i l. rw (put .else i (λ q. omega arith)) (done-stays new (Q i) (queue .met i (omega arith)) (search .done i l));
         away = λ y l m q.
-            same-or (across B (Q h) e) y
-            (λ r. absurd (apart (ap (λ z. z / 4) (sym r) ∙ q)))
-            (λ r. search .away y l (omega (arith, new .depth .else y r)) q);
+            elim (ℕ-discrete y (across B (Q h) e)) [
+              | yes r ↦ absurd (apart (ap (λ z. z / 4) (sym r) ∙ q))
+              | no r ↦ search .away y l (omega (arith, new .depth .else y r)) q
+            ];
       }
 
 -- an edge to a state that was met already
@@ -186,9 +197,9 @@ head-done {B} {s} {D} {K} {Q} {h} {t} search some d =
 
 -- The walk begins with the start alone.
 pub search-start :
-    (B : Board) (s : ℕ) (D D′ K Q Q′ : ℕ → ℕ) → s < B .vertices → ((y : ℕ) → y < states B → D y ≡ 0) → Put D D′ (home s) 1 →
+    {B : Board} {s : ℕ} {D D′ K Q Q′ : ℕ → ℕ} → s < B .vertices → ((y : ℕ) → y < states B → D y ≡ 0) → Put D D′ (home s) 1 →
     Put Q Q′ 0 (home s) → Search B s D′ K Q′ 0 1
-search-start B s D D′ K Q Q′ l none depth first =
+search-start {B} {s} {D} {D′} {K} {Q} {Q′} l none depth first =
     record {
       tree = record {
         start = depth .here;
@@ -214,7 +225,7 @@ search-start B s D D′ K Q Q′ l none depth first =
     }
   where
     only : (y : ℕ) → y < states B → 1 ≤ D′ y → y ≡ home s
-    only y h m = same-or (home s) y (λ r. r) (λ r. absurd (omega (arith, depth .else y r, none y h)))
+    only y h m = elim (ℕ-discrete y (home s)) [ yes r ↦ r | no r ↦ absurd (omega (arith, depth .else y r, none y h)) ]
 
     zeroth : (i : ℕ) → i < 1 → i ≡ 0
     zeroth i h = omega arith

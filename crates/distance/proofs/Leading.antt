@@ -11,7 +11,8 @@ use Rattle.model.specs.Board.{Board, Valid, edges}
 use Rattle.model.specs.Syndrome.{touches}
 use Rattle.model.specs.Winding.{crossesA, crossesB}
 use Rattle.model.proofs.Contradiction.{zero-one}
-use Rattle.theory.proofs.Lines.{Line, lineA, lineB}
+use Rattle.model.proofs.Xor.{xor-comm, xor-twice}
+use Rattle.theory.proofs.CrossedLines.{Line, lineA, lineB}
 use Rattle.theory.proofs.Walks.{Along, forth, back, Walk, stop, step, walkCrosses}
 use Rattle.distance.specs.States.{state, onA, onB, otherEnd, across}
 use Rattle.distance.specs.Search.{states, home, Kept, Tree, trail}
@@ -75,10 +76,7 @@ leads-across {B} {s} {y} {e} {l} h t p =
     }
   where
     cancel : (a b : Bool) → b ⊕ (a ⊕ b) ≡ a
-    cancel true true = refl
-    cancel true false = refl
-    cancel false true = refl
-    cancel false false = refl
+    cancel a b = xor-comm b (a ⊕ b) ∙ xor-twice a b
 
 -- the first edge of what leads to the start
 pub record Across (B : Board) (s y e : ℕ) (l : List ℕ) : Type 0 where
@@ -90,10 +88,7 @@ pub across-leads : {B : Board} {s y e : ℕ} {l : List ℕ} → Leads B s y (e �
 across-leads {B} {s} {y} {e} {l} p = go (p .walk) refl refl
   where
     cancel : (a b c : Bool) → b ⊕ c ≡ a → c ≡ a ⊕ b
-    cancel a true true q = ap (λ d. d ⊕ true) q
-    cancel a true false q = ap (λ d. d ⊕ true) q
-    cancel a false true q = ap (λ d. d ⊕ false) q
-    cancel a false false q = ap (λ d. d ⊕ false) q
+    cancel a b c q = sym (xor-twice c b) ∙ ap (λ t. t ⊕ b) (xor-comm c b ∙ q)
 
     go : {u : ℕ} {k : List ℕ} → Walk B u k s → u ≡ y / 4 → k ≡ e ∷ l → Across B s y e l
     go stop q r = zero-one (cc)

@@ -1,6 +1,5 @@
-pub mod Cases
-pub mod Counting
 pub mod Storing
+pub mod ShownBytes
 pub mod StateLaws
 pub mod Leading
 pub mod Entering
@@ -8,5 +7,5 @@ pub mod Shortest
 pub mod Turning
 pub mod Tracing
 pub mod Meetings
-pub mod Answers
-pub mod Outcome
+pub mod LoopAnswers
+pub mod DistanceOutcome

@@ -6,11 +6,11 @@ use mathlib.Core.List.{List}
 use native.Mathlib.Nat.{le-refl, lt-irrefl}
 use native.Mathlib.Omega.{arith}
 use Rattle.model.specs.Sums.{bytes}
-use Rattle.model.specs.Board.{Board, Valid, edges}
-use Rattle.theory.proofs.Lines.{Line, lineA, lineB}
-use Rattle.theory.proofs.Walks.{walkCrosses, passedOddly}
+use Rattle.model.specs.Board.{Board, Valid, edgeLimit}
+use Rattle.theory.proofs.CrossedLines.{Line, lineA, lineB}
+use Rattle.theory.proofs.Walks.{walkCrosses}
 use Rattle.distance.specs.States.{onA, onB}
-use Rattle.distance.specs.Search.{home, NoShorter, trail}
+use Rattle.distance.specs.Search.{home, NoShorter, trail, passedFrom}
 use Rattle.distance.specs.Walking.{Met}
 use Rattle.distance.specs.Found.{ShowsWalk, Improved}
 use Rattle.distance.proofs.StateLaws.{state-parts}
@@ -25,10 +25,11 @@ other-copy {A} s y vertex apart a b = go (onA y) (onB y) refl refl
     go false true e f = b f
     go false false e f = absurd (apart (sym (state-parts y) ∙ rw (e, f, vertex) (omega arith)))
 
-pub met-walk :
+met-walk :
     {B : Board} {s best : ℕ} {D K : ℕ → ℕ} {y : ℕ} → Valid B → (met : Met B s best D K y) →
-    ShowsWalk B (met .edges) (bytes (edges B) (passedOddly (trail B K (D y - 1) y)))
-met-walk {B} {s} {best} {D} {K} {y} valid met = other-copy s y (met .vertex) (met .apart) (λ a. shows lineA (leads .crossedA ∙ a)) (λ b. shows lineB (leads .crossedB ∙ b))
+    ShowsWalk B (met .edges) (bytes edgeLimit (passedFrom B D K y))
+met-walk {B} {s} {best} {D} {K} {y} valid met =
+    other-copy s y (met .vertex) (met .apart) (λ a. shows lineA (leads .crossedA ∙ a)) (λ b. shows lineB (leads .crossedB ∙ b))
   where
     long : D y - 1 ≡ met .edges
     long = omega (arith, met .depth)
@@ -38,7 +39,7 @@ met-walk {B} {s} {best} {D} {K} {y} valid met = other-copy s y (met .vertex) (me
 
     shows :
         (x : Line) → walkCrosses B x (trail B K (D y - 1) y) ≡ true →
-        ShowsWalk B (met .edges) (bytes (edges B) (passedOddly (trail B K (D y - 1) y)))
+        ShowsWalk B (met .edges) (bytes edgeLimit (passedFrom B D K y))
     shows x crossed =
         record {
           vertex = s;
@@ -51,13 +52,13 @@ met-walk {B} {s} {best} {D} {K} {y} valid met = other-copy s y (met .vertex) (me
         }
 
 -- the best is as it was
-pub not-improved : {B : Board} {s best : ℕ} {shown : List ℕ} → NoShorter B s best → Improved B s best shown best shown
-not-improved least = record { least = least; no-worse = le-refl _; kept = λ q. refl; found = λ h. absurd (lt-irrefl _ h) }
+pub not-improved : {B : Board} {s best : ℕ} {found : List ℕ} → NoShorter B s best → Improved B s best found best found
+not-improved least = record { least = least; no-worse = le-refl _; kept = λ q. refl; shown = λ h. absurd (lt-irrefl _ h) }
 
 -- the loop that was met is the best
 pub improved :
-    {B : Board} {s best : ℕ} {D K : ℕ → ℕ} {y : ℕ} {shown shown′ : List ℕ} → Valid B → Met B s best D K y →
-    shown′ ≡ bytes (edges B) (passedOddly (trail B K (D y - 1) y)) → Improved B s best shown (D y - 1) shown′
+    {B : Board} {s best : ℕ} {D K : ℕ → ℕ} {y : ℕ} {found found′ : List ℕ} → Valid B → Met B s best D K y →
+    found′ ≡ bytes edgeLimit (passedFrom B D K y) → Improved B s best found (D y - 1) found′
 improved {D = D} {y = y} valid met written =
     let long : D y - 1 ≡ met .edges = omega (arith, met .depth) in
     rw long
@@ -65,5 +66,5 @@ improved {D = D} {y = y} valid met written =
       least = met .least;
       no-worse = omega (arith, met .fewer);
       kept = λ q. absurd (omega (arith, met .fewer));
-      found = λ h. rw written (met-walk valid met);
+      shown = λ h. rw written (met-walk valid met);
     })

@@ -3,14 +3,14 @@ use Prim.Native.Nat.{ℕ, suc, _≤_, _<_}
 use mathlib.Core.Path.{_≡_, ap, _∙_}
 use mathlib.Core.Bool.{true}
 use mathlib.Core.List.{List, [], _∷_}
+use native.Mathlib.Decide.{decLt}
 use native.Mathlib.Omega.{arith}
 use lib.ListN.{length}
 use Rattle.model.specs.Board.{Board, Valid}
-use Rattle.theory.proofs.Lines.{Line, lineA, lineB}
+use Rattle.theory.proofs.CrossedLines.{Line, lineA, lineB}
 use Rattle.theory.proofs.Walks.{Walk, walkCrosses}
 use Rattle.distance.specs.States.{state, across}
 use Rattle.distance.specs.Search.{states, Tree, Place, Near, Done, Search, NoShorter}
-use Rattle.distance.proofs.Cases.{below-or}
 use Rattle.distance.proofs.StateLaws.{state-vertex, state-bound, across-bound, across-touches, across-back}
 use Rattle.distance.proofs.Leading.{Leads, home-leads, Across, across-leads, closed-leads, crossing-away}
 
@@ -40,7 +40,11 @@ reached B valid s D K tree d below (e ∷ l) y h p =
 pub shallow-done :
     {B : Board} {s : ℕ} {D K Q : ℕ → ℕ} {h t : ℕ} → Search B s D K Q h t → (d : ℕ) → (h < t → d ≤ D (Q h)) → (x : ℕ) → x < states B →
     1 ≤ D x → D x < d → Done B D x
-shallow-done {B} {s} {D} {K} {Q} {h} {t} search d deep x l m less = below-or h (p .index) (λ b. rw (← p .here) (search .done (p .index) b)) (λ b. absurd (later b))
+shallow-done {B} {s} {D} {K} {Q} {h} {t} search d deep x l m less =
+    elim (decLt (p .index) h) [
+      | yes b ↦ rw (← p .here) (search .done (p .index) b)
+      | no b ↦ absurd (later (omega arith))
+    ]
   where
     p : Place Q t x
     p = search .queue .place x l m
@@ -55,7 +59,7 @@ pub no-shorter :
     {B : Board} {s : ℕ} {D K Q : ℕ → ℕ} {h t : ℕ} → Valid B → s < B .vertices → Search B s D K Q h t → (d : ℕ) →
     (h < t → d ≤ D (Q h)) → NoShorter B s d
 no-shorter {B} {s} {D} {K} {Q} {h} {t} valid inside search d deep =
-    record { least = λ l x w c. below-or d (length l) (λ b. absurd (short l x w c b)) (λ b. b) }
+    record { least = λ l x w c. elim (decLt (length l) d) [ yes b ↦ absurd (short l x w c b) | no b ↦ omega arith ] }
   where
     short : (l : List ℕ) (x : Line) → Walk B s l s → walkCrosses B x l ≡ true → length l < d → ⊥
     short l x w c b =

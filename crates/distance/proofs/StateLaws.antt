@@ -10,7 +10,8 @@ use Rattle.model.specs.Sums.{_⊕_, bit}
 use Rattle.model.specs.Board.{Board, Valid, edges, firstEnd, secondEnd, mark}
 use Rattle.model.specs.Syndrome.{touches}
 use Rattle.model.specs.Winding.{crossesA, crossesB}
-use Rattle.model.proofs.Xor.{xor-assoc, xor-self, xor-false}
+use Rattle.model.proofs.Xor.{xor-twice}
+use Rattle.model.proofs.Bits.{bit-bound}
 use Rattle.distance.specs.States.{state, onA, onB, otherEnd, across}
 
 -- the parts of a state
@@ -132,8 +133,8 @@ pub other-bound : (B : Board) → Valid B → (e v : ℕ) → e < edges B → ot
 other-bound B valid e v h = go (eqb (firstEnd B e) v)
   where
     go : (x : Bool) → cond x (secondEnd B e) (firstEnd B e) < B .vertices
-    go true = valid .second-in-range e h
-    go false = valid .first-in-range e h
+    go true = valid .inside .second-in-range e h
+    go false = valid .inside .first-in-range e h
 
 -- the state across an edge
 
@@ -157,9 +158,6 @@ across-bound B valid y e h =
 pub across-touches : (B : Board) (y e : ℕ) → touches B e (across B y e / 4) ≡ true
 across-touches B y e = ap (touches B e) (across-vertex B y e) ∙ other-touches B e (y / 4)
 
-xor-twice : (a b : Bool) → a ⊕ b ⊕ b ≡ a
-xor-twice a b = xor-assoc a b b ∙ ap (λ c. a ⊕ c) (xor-self b) ∙ xor-false a
-
 -- an edge leads back to where it came from
 pub across-back : (B : Board) (y e : ℕ) → touches B e (y / 4) ≡ true → across B (across B y e) e ≡ y
 across-back B y e t = parts (across B y e) (across-vertex B y e) (across-onA B y e) (across-onB B y e) ∙ state-parts y
@@ -172,13 +170,7 @@ across-back B y e t = parts (across B y e) (across-vertex B y e) (across-onA B y
 -- the way it is computed
 
 pub copy-bound : (y m : ℕ) → m ≤ 3 → bitXor (y % 4) m ≤ 3
-copy-bound y m h = rw (copy-xor y m h) (bits (onA y ⊕ onA m) (onB y ⊕ onB m))
-  where
-    bits : (a b : Bool) → bit a + 2 * bit b ≤ 3
-    bits true true = omega arith
-    bits true false = omega arith
-    bits false true = omega arith
-    bits false false = omega arith
+copy-bound y m h = omega (arith, copy-xor y m h, bit-bound (onA y ⊕ onA m), bit-bound (onB y ⊕ onB m))
 
 pub across-to-second :
     (B : Board) → Valid B → (y e : ℕ) → e < edges B → firstEnd B e ≡ y / 4 →

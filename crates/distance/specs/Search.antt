@@ -1,6 +1,6 @@
 -- What a breadth-first walk over the four copies knows, as its loops' invariant: depths D, kept edges K and the queue Q of which h states
 -- are done and t are entered. No part of what a reader must believe: the contract of `distance` does not cite it. Assumes nothing.
-use Prim.Native.Nat.{ℕ, zero, suc, _*_, _/_, _≤_, _<_}
+use Prim.Native.Nat.{ℕ, zero, suc, _*_, _-_, _/_, _≤_, _<_}
 use mathlib.Core.Path.{_≡_}
 use mathlib.Core.Bool.{true}
 use mathlib.Core.List.{List, [], _∷_}
@@ -9,8 +9,8 @@ use lib.Dec.{ltb}
 use Rattle.model.specs.Sums.{Set, countUpTo}
 use Rattle.model.specs.Board.{Board, edges}
 use Rattle.model.specs.Syndrome.{touches}
-use Rattle.theory.proofs.Lines.{Line}
-use Rattle.theory.proofs.Walks.{Walk, walkCrosses}
+use Rattle.theory.proofs.CrossedLines.{Line}
+use Rattle.theory.proofs.Walks.{Walk, walkCrosses, passedOddly}
 use Rattle.distance.specs.States.{across}
 
 -- an array as a function of the place
@@ -80,3 +80,7 @@ pub record NoShorter (B : Board) (s d : ℕ) : Type 0 where
 unfoldable pub trail : Board → (ℕ → ℕ) → ℕ → ℕ → List ℕ
 trail B K zero y = []
 trail B K (suc k) y = K y ∷ trail B K k (across B y (K y))
+
+-- the edges that the way back from state y to the start passes an odd number of times
+abbrev pub passedFrom : Board → (ℕ → ℕ) → (ℕ → ℕ) → ℕ → Set
+passedFrom B D K y = passedOddly (trail B K (D y - 1) y)

@@ -1,10 +1,8 @@
 -- What going back along the kept edges starts from. No part of what a reader must believe: the contract of `distance` does not cite it.
 -- Assumes nothing.
 use Prim.Native.Nat.{ℕ, _≤_, _<_}
-use mathlib.Core.Path.{_≡_}
 use mathlib.Core.List.{List}
-use lib.ListN.{replicate}
-use Rattle.model.specs.Board.{Valid, edges}
+use Rattle.model.specs.Board.{Valid}
 use Rattle.distance.specs.States.{padded, stateLimit}
 use Rattle.distance.specs.Search.{at, Tree}
 
@@ -14,9 +12,8 @@ pub record Rooted (ends marks D K : List ℕ) : Type 0 where
   pub valid : Valid (padded ends marks)
   pub tree : Tree (padded ends marks) start (at D) (at K)
 
--- a state that was met, and a buffer of zeros
-pub record Traceable (ends marks D K : List ℕ) (y : ℕ) (shown : List ℕ) : Type 0 where
+-- a state that was met
+pub record Traceable (ends marks D K : List ℕ) (y : ℕ) : Type 0 where
   pub rooted : Rooted ends marks D K
   pub inside : y < stateLimit
   pub met : 1 ≤ at D y
-  pub blank : shown ≡ replicate (edges (padded ends marks)) 0

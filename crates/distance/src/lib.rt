@@ -6,26 +6,61 @@ mod walk;
 
 use crate::search::NO_LOOP;
 use crate::search::shortest;
-use crate::trace::clear;
-use board::lent::check_distance;
+use board::copy::copy_bytes;
 use board::outcome::Check;
+use board::tests::check_board;
 use model::answers::Distance;
+use model::limits::EDGES;
+ghost use mathlib.Core.Path.{_≡_};
+ghost use lib.ListN.{replicate};
+ghost use Rattle.model.specs.Board.{edgeLimit};
+ghost use Rattle.model.specs.Lent.{before, after, boardLent};
 ghost use Rattle.model.specs.Outcomes.{Measures};
-ghost use Rattle.model.specs.Board.{boardOf};
+ghost use Rattle.distance.specs.Found.{Answered, bytesWritten};
 
-// The fewest edges of a winding loop, and such a loop in `shown`, a byte for each edge: 1 for those of the loop. Where there
-// is no winding loop, nothing, and `shown` is all 0. A refusal leaves `shown` as it was.
-pub fn distance(vertices: usize, ends: &[u16], marks: &[u8], shown: &mut [u8]) -> Distance
-    ensures { λ r. ⌜ Measures (boardOf vertices (now (ends .entry)) (now (marks .entry))) (now (shown .entry)) r (now (shown .exit)) ⌝ }
+// The tests, then the walks: the answer, and in the front of `found` what it shows. `fit` says whether the lent buffer has its
+// length.
+fn measure(
+    vertices: usize,
+    ends: &[u16],
+    marks: &[u8],
+    fit: bool,
+    found: &mut [u8; EDGES],
+) -> Distance
+    requires { ⌜ now found ≡ replicate edgeLimit 0 ⌝ }
+    ensures { λ r. ⌜ Answered (boardLent vertices ends marks) fit r (after found) ⌝ }
 {
-    if let Check::Failed(refusal) = check_distance(vertices, ends, marks, shown) {
+    if let Check::Failed(refusal) = check_board(vertices, ends, marks, fit) {
         return Distance::Refused(refusal);
     }
-    let fewest = shortest(vertices, ends, marks, shown);
+    let fewest = shortest(vertices, ends, marks, found);
     if fewest == NO_LOOP {
-        clear(shown);
         return Distance::Nothing;
     }
     let edges = fewest as usize;
     Distance::Fewest(edges)
+}
+
+// How many bytes of the lent buffer an answer writes: one for each edge, or none where it is a refusal.
+fn written(answer: Distance, edges: usize) -> usize
+    ensures { λ r. ⌜ r ≡ bytesWritten answer edges ⌝ }
+{
+    match answer {
+        Distance::Fewest(_) => edges,
+        Distance::Nothing => edges,
+        Distance::Refused(_) => 0,
+    }
+}
+
+// The fewest edges of a winding loop, and such a loop in `shown`, a byte for each edge: 1 for those of the loop. Where there
+// is no winding loop, nothing, and `shown` is all 0. A refusal leaves `shown` as it was.
+pub fn distance(vertices: usize, ends: &[u16], marks: &[u8], shown: &mut [u8]) -> Distance
+    ensures { λ r. ⌜ Measures (boardLent vertices ends marks) (before shown) r (after shown) ⌝ }
+{
+    let mut found = [0u8; EDGES];
+    let fit = shown.len() == ends.len() / 2;
+    let answer = measure(vertices, ends, marks, fit, &mut found);
+    let count = written(answer, marks.len());
+    copy_bytes(&found, count, shown);
+    answer
 }

@@ -1,24 +1,26 @@
 use crate::state::STATES;
-use crate::trace::clear;
 use crate::trace::trace;
 use crate::walk::Meeting;
 use crate::walk::walk;
 use board::incidence::ENTRIES;
 use board::incidence::OFFSETS;
 use board::incidence::list_edges;
+use model::limits::EDGES;
 use model::limits::VERTICES;
 use model::numbers::Vertex;
 ghost use mathlib.Core.Path.{_≡_};
-ghost use lib.ListN.{length};
-ghost use Rattle.model.specs.Board.{boardOf, Valid};
+ghost use lib.ListN.{replicate};
+ghost use Rattle.model.specs.Lent.{before, after, boardLent};
+ghost use Rattle.model.specs.Board.{boardOf, Valid, edgeLimit};
 ghost use Rattle.distance.specs.States.{padded};
 ghost use Rattle.distance.specs.Walking.{Ready};
 ghost use Rattle.distance.specs.Found.{Improved, Shortest};
 
-// Stands for the edges of a loop as long as none is found: one more than a board has.
-pub const NO_LOOP: u16 = 4097;
+// Stands for the edges of a loop as long as none is found: one more than a board may have.
+pub const NO_LOOP: u16 = EDGES as u16 + 1;
 
-// Walks from one start, and shows the loop that it finds if that has fewer than `best` edges. Gives the fewest edges so far.
+// Walks from one start, and shows the loop that it finds in `found` if that has fewer than `best` edges. Gives the fewest edges so
+// far.
 fn improve(
     ends: &[u16],
     marks: &[u8],
@@ -26,10 +28,10 @@ fn improve(
     entries: &[u16; ENTRIES],
     start: Vertex,
     best: u16,
-    shown: &mut [u8],
+    found: &mut [u8; EDGES],
 ) -> u16
-    requires { ⌜ Ready (now ends) (now marks) (now offsets) (now entries) (start .0) best × (length (now shown) ≡ length (now marks)) ⌝ }
-    ensures { λ r. ⌜ Improved (padded (now (ends .entry)) (now (marks .entry))) (start .0) best (now (shown .entry)) r (now (shown .exit)) ⌝ }
+    requires { ⌜ Ready (now ends) (now marks) (now offsets) (now entries) (start .0) best ⌝ }
+    ensures { λ r. ⌜ Improved (padded (before ends) (before marks)) (start .0) best (before found) r (after found) ⌝ }
 {
     let mut depth = [0u16; STATES];
     let mut via = [0u16; STATES];
@@ -47,15 +49,15 @@ fn improve(
     ) else {
         return best;
     };
-    clear(shown);
-    trace(ends, marks, &depth, &via, met, shown);
+    trace(ends, marks, &depth, &via, met, found);
     depth[met.0 as usize] - 1
 }
 
-// The fewest edges of a loop over all starts, and such a loop in `shown`, or NO_LOOP.
-pub fn shortest(vertices: usize, ends: &[u16], marks: &[u8], shown: &mut [u8]) -> u16
-    requires { ⌜ Valid (boardOf vertices (now ends) (now marks)) × (length (now shown) ≡ length (now marks)) ⌝ }
-    ensures { λ r. ⌜ Shortest (boardOf vertices (now (ends .entry)) (now (marks .entry))) r (now (shown .exit)) ⌝ }
+// The fewest edges of a loop over all starts, and such a loop in `found`, or NO_LOOP and zeros.
+pub fn shortest(vertices: usize, ends: &[u16], marks: &[u8], found: &mut [u8; EDGES]) -> u16
+    requires { ⌜ Valid (boardOf vertices (now ends) (now marks)) ⌝ }
+    requires { ⌜ now found ≡ replicate edgeLimit 0 ⌝ }
+    ensures { λ r. ⌜ Shortest (boardLent vertices ends marks) r (after found) ⌝ }
 {
     let mut offsets = [0u16; OFFSETS];
     let mut entries = [0u16; ENTRIES];
@@ -64,7 +66,7 @@ pub fn shortest(vertices: usize, ends: &[u16], marks: &[u8], shown: &mut [u8]) -
     let mut start: usize = 0;
     while start < vertices {
         let v = start as u16;
-        best = improve(ends, marks, &offsets, &entries, Vertex(v), best, shown);
+        best = improve(ends, marks, &offsets, &entries, Vertex(v), best, found);
         start += 1;
     }
     best

@@ -1,8 +1,11 @@
+use model::ends::first_end;
+use model::ends::second_end;
 use model::limits::VERTICES;
 use model::numbers::Edge;
 use model::numbers::Vertex;
 ghost use mathlib.Core.Path.{_≡_};
 ghost use Prim.Native.Nat.{_/_, _<_};
+ghost use Rattle.model.specs.Lent.{before};
 ghost use Rattle.model.specs.Board.{Valid, edges, vertexLimit};
 ghost use Rattle.distance.specs.States.{across, padded};
 ghost use Rattle.distance.specs.Search.{home};
@@ -32,19 +35,17 @@ impl State {
     // The state across an edge: the edge's other end, on the copy that differs by the edge's mark.
     pub fn across(self, ends: &[u16], marks: &[u8], edge: Edge) -> State
         requires { ⌜ Valid (padded (now ends) (now marks)) × (edge .0 < edges (padded (now ends) (now marks))) ⌝ }
-        ensures { λ r. ⌜ r .0 ≡ across (padded (now (ends .entry)) (now (marks .entry))) (self .0) (edge .0) ⌝ }
+        ensures { λ r. ⌜ r .0 ≡ across (padded (before ends) (before marks)) (self .0) (edge .0) ⌝ }
     {
+        let first = first_end(ends, edge);
+        let second = second_end(ends, edge);
         let e = edge.0 as usize;
-        let i = 2 * e;
-        let j = i + 1;
-        let a = ends[i];
-        let b = ends[j];
         let copy = (self.0 % 4) ^ (marks[e] as u16);
-        if a == self.0 / 4 {
-            let far = 4 * b + copy;
+        if first.0 == self.0 / 4 {
+            let far = 4 * second.0 + copy;
             return State(far);
         }
-        let far = 4 * a + copy;
+        let far = 4 * first.0 + copy;
         State(far)
     }
 }

@@ -4,6 +4,7 @@ use board::incidence::ENTRIES;
 use board::incidence::OFFSETS;
 use model::numbers::Edge;
 use model::numbers::Vertex;
+ghost use Rattle.model.specs.Lent.{before, after};
 ghost use Rattle.distance.specs.States.{padded};
 ghost use Rattle.distance.specs.Search.{at};
 ghost use Rattle.distance.specs.Walking.{Room, Entry, Ready, Fresh, Walked};
@@ -20,7 +21,9 @@ fn enter(
     tail: &mut usize,
 ) -> bool
     requires { ⌜ Room (now depth) (now via) (now queue) (now tail) (state .0) ⌝ }
-    ensures { λ r. ⌜ Entry (now (depth .entry)) (now (via .entry)) (now (queue .entry)) (now (tail .entry)) (state .0) (edge .0) level r (now (depth .exit)) (now (via .exit)) (now (queue .exit)) (now (tail .exit)) ⌝ }
+    ensures { λ r.
+        ⌜ Entry (before depth) (before via) (before queue) (now (tail .entry)) (state .0) (edge .0) level
+        r (after depth) (after via) (after queue) (now (tail .exit)) ⌝ }
 {
     let i = state.0 as usize;
     if depth[i] != 0 {
@@ -55,8 +58,9 @@ pub fn walk(
     via: &mut [u16; STATES],
     queue: &mut [u16; STATES],
 ) -> Meeting
-    requires { ⌜ Ready (now ends) (now marks) (now offsets) (now entries) (start .0) best × Fresh (now depth) (now via) (now queue) ⌝ }
-    ensures { λ r. ⌜ Walked (padded (now (ends .entry)) (now (marks .entry))) (start .0) best (at (now (depth .exit))) (at (now (via .exit))) r ⌝ }
+    requires { ⌜ Ready (now ends) (now marks) (now offsets) (now entries) (start .0) best ⌝ }
+    requires { ⌜ Fresh (now depth) (now via) (now queue) ⌝ }
+    ensures { λ r. ⌜ Walked (padded (before ends) (before marks)) (start .0) best (at (after depth)) (at (after via)) r ⌝ }
 {
     let home = State::home(start);
     depth[home.0 as usize] = 1;

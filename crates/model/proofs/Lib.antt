@@ -2,7 +2,9 @@ pub mod Contradiction
 pub mod Xor
 pub mod Bits
 pub mod SumLaws
+pub mod CountLaws
 pub mod ListLaws
+pub mod EndLaws
 pub mod RuleNumbers
 pub mod ReportExamples
 pub mod Packing

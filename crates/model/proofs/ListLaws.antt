@@ -1,11 +1,13 @@
--- Laws of lists that are made by index. Assumes nothing.
-use Prim.Native.Nat.{ℕ, zero, suc, _<_}
+-- Laws of lists that are made by index, and of stores. Assumes nothing.
+use Prim.Native.Nat.{ℕ, zero, suc, _≤_, _<_}
 use mathlib.Core.Path.{_≡_, refl, sym, ap, ap₂, _∙_}
+use mathlib.Core.Bool.{Bool, true, false, cond}
 use mathlib.Core.List.{List, [], _∷_, _++_}
 use native.Mathlib.Nat.{not-suc-le-zero, le-of-suc-le-suc}
 use native.Mathlib.Omega.{arith}
-use lib.ListN.{length, getD, replicate}
-use lib.Seq.{ext-getD}
+use lib.ListN.{length, getD, set, take, drop, replicate, length-replicate}
+use borrow.Author.Tests.{eqb-true, eqb-false}
+use lib.Seq.{ext-getD, getD-set-same, getD-set-other, length-take-le, length-front}
 use lib.Dec.{eqb}
 use Rattle.model.specs.Sums.{Set, bit, values, ones, bytes}
 use Rattle.model.proofs.Bits.{eqb-bit}
@@ -48,3 +50,19 @@ zero-everywhere (suc n) (suc i) = zero-everywhere n i
 -- the set of a buffer made from a set is that set
 pub ones-bytes : (n : ℕ) (D : Set) (i : ℕ) → i < n → ones (bytes n D) i ≡ D i
 ones-bytes n D i h = ap (λ x. eqb x 1) (getD-values n (λ i. bit (D i)) i 0 h) ∙ eqb-bit (D i)
+
+-- a list after a store, at every index
+pub getD-set : {A : Type 0} (l : List A) (i j : ℕ) (a d : A) → i < length l → getD (set l i a) j d ≡ cond (eqb i j) a (getD l j d)
+getD-set {A} l i j a d h = go (eqb i j) refl
+  where
+    go : (t : Bool) → eqb i j ≡ t → getD (set l i a) j d ≡ cond t a (getD l j d)
+    go true p = rw (sym (eqb-true i j p)) (getD-set-same l i a d h)
+    go false p = getD-set-other l i j a d (λ q. eqb-false i j p (sym q))
+
+-- the front of an array of one value has its length
+pub front-long : (m n x : ℕ) → m ≤ n → length (take m (replicate n x)) ≡ m
+front-long m n x h = length-take-le m (replicate n x) (omega (arith, length-replicate n x))
+
+-- .. and so has the array once its front was filled
+pub filled-long : (m n : ℕ) (l : List ℕ) → length l ≡ m → m ≤ n → length (l ++ drop m (replicate n 0)) ≡ n
+filled-long m n l p h = length-front (replicate n 0) l m (p ∙ sym (front-long m n 0 h)) ∙ length-replicate n 0

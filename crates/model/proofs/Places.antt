@@ -2,12 +2,12 @@
 use Prim.Native.Nat.{ℕ, _≤_, _<_}
 use mathlib.Core.Path.{_≡_, refl, subst}
 use mathlib.Core.Bool.{Bool, true, false}
-use mathlib.Core.List.{List, [], _∷_}
+use mathlib.Core.List.{List, [], _∷_, map}
 use mathlib.Core.Option.{Option, none, some, Option·none-ne-some, Option·some-injective}
 use native.Mathlib.Omega.{arith}
 use Rattle.model.specs.declared.refusal.Refusal.{Refusal}
 use Rattle.model.specs.Sums.{Set, orElse, firstUpTo}
-use Rattle.model.specs.Refusals.{placeOf, Test, unless, refusedAt, firstPlace, firstFailure}
+use Rattle.model.specs.Refusals.{placeOf, Test, unless, refusedAt, firstPlace, firstFailure, Rule, tested, refusalOf}
 use Rattle.model.specs.Outcomes.{answer}
 use Rattle.model.proofs.SumLaws.{first-found}
 
@@ -42,14 +42,18 @@ pub else-below : {b : ℕ} (t u : Test) → PlaceBelow b t → (t ≡ none → P
 else-below none u w later = later refl
 else-below (some n) u w later = w
 
-abbrev pub EachBelow : ℕ → List Test → Type 0
+-- a list of rules
+abbrev pub EachBelow : ℕ → List Rule → Type 0
 EachBelow b [] = Unit {0}
-EachBelow b (t ∷ ts) = PlaceBelow b t × EachBelow b ts
+EachBelow b (R ∷ rs) = PlaceBelow b (tested R) × EachBelow b rs
 
-pub row-below : {b : ℕ} (ts : List Test) → EachBelow b ts → PlaceBelow b (firstFailure ts)
-row-below {b} [] w = passes-below b
-row-below (none ∷ ts) w = row-below ts (w .1)
-row-below (some n ∷ ts) w = w .0
+pub rules-below : {b : ℕ} (rs : List Rule) → EachBelow b rs → PlaceBelow b (refusalOf rs)
+rules-below {b} [] w = passes-below b
+rules-below {b} (R ∷ rs) w = go (tested R) (w .0) (rules-below rs (w .1))
+  where
+    go : (t : Test) → PlaceBelow b t → PlaceBelow b (refusalOf rs) → PlaceBelow b (firstFailure (t ∷ map tested rs))
+    go none here later = later
+    go (some n) here later = here
 
 -- what holds of every refusal that the test gives, and of what follows where it passes, holds of the answer
 pub answer-holds : {A : Type 0} (P : A → Type 0) (t : Test) (refused : Refusal → A) (else : A)

@@ -5,7 +5,7 @@ use mathlib.Core.Path.{_≡_, refl}
 use mathlib.Core.List.{List, [], _∷_}
 use Rattle.model.specs.Board.{Board, Sheet}
 use Rattle.model.specs.Refusals.{decodeRules, verdictRules, distanceRules, torusRules}
-use Rattle.model.specs.TextOutcomes.{readRules, writeRules}
+use Rattle.model.specs.TextOutcomes.{Buffers, readRules, writeRules}
 use Rattle.model.specs.Precedence.{Numbered}
 
 -- a rule with places: at each place the refusal computes to the rule's number and to that place
@@ -31,9 +31,9 @@ pub torus-numbers : (L : ℕ) (ends marks : List ℕ) → Numbered (11 ∷ 3 ∷
 unfolding torusRules
 torus-numbers L ends marks = record { in-turn = (refl, (refl, tt)) }
 
-pub read-numbers : (text ends marks syndrome loss : List ℕ) → Numbered (3 ∷ 12 ∷ []) (readRules text ends marks syndrome loss)
+pub read-numbers : (text : List ℕ) (old : Buffers) → Numbered (3 ∷ 12 ∷ []) (readRules text old)
 unfolding readRules
-read-numbers text ends marks syndrome loss = record { in-turn = (refl, (refl, tt)) }
+read-numbers text old = record { in-turn = (refl, (refl, tt)) }
 
 pub write-numbers : (X : Sheet) (buffer : List ℕ)
     → Numbered (1 ∷ 2 ∷ 3 ∷ 4 ∷ 5 ∷ 6 ∷ 7 ∷ 8 ∷ 12 ∷ 14 ∷ []) (writeRules X buffer)

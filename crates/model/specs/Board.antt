@@ -4,10 +4,10 @@ use Prim.Native.Nat.{ℕ, _+_, _*_, _≤_, _<_}
 use mathlib.Core.Path.{_≡_}
 use mathlib.Core.Logic.{_≢_}
 use mathlib.Core.List.{List}
-use lib.ListN.{length, getD}
+use lib.ListN.{length, getD, replicate}
 
--- A board has vertices, numbered from 0, and edges, numbered from 0 in list order. It is lent as end numbers, two for each edge,
--- and one mark for each edge.
+-- A multigraph on the vertices 0, 1, .., vertices - 1. Edge e joins entries 2e and 2e + 1 of `ends`, and its mark is entry e of `marks`.
+-- Parallel edges are allowed, edges with equal ends are not (`Valid`).
 pub record Board : Type 0 where
   pub vertices : ℕ
   pub ends : List ℕ
@@ -26,7 +26,7 @@ firstEnd B e = getD (B .ends) (2 * e) 0
 abbrev pub secondEnd : Board → ℕ → ℕ
 secondEnd B e = getD (B .ends) (2 * e + 1) 0
 
--- Bit 0 says that the edge crosses line A, bit 1 line B.
+-- the mark of edge e, 0 to 3: bit 0 is 1 where e crosses line A, bit 1 is 1 where it crosses line B
 abbrev pub mark : Board → ℕ → ℕ
 mark B e = getD (B .marks) e 0
 
@@ -37,16 +37,29 @@ vertexLimit = 1024
 abbrev pub edgeLimit : ℕ
 edgeLimit = 4096
 
+-- m edges have their ends, two for each, among n vertices, and both counts are within the limits
+pub record EndsWithin (n m : ℕ) (ends : List ℕ) : Type 0 where
+  pub vertex-limit : n ≤ vertexLimit
+  pub edge-limit : m ≤ edgeLimit
+  pub two-ends : length ends ≡ 2 * m
+  pub first-in-range : (e : ℕ) → e < m → getD ends (2 * e) 0 < n
+  pub second-in-range : (e : ℕ) → e < m → getD ends (2 * e + 1) 0 < n
+
+-- so it is with the board's own
+abbrev pub Inside : Board → Type 0
+Inside B = EndsWithin (B .vertices) (edges B) (B .ends)
+
 -- a board that breaks none of the rules 1 to 6
 pub record Valid (B : Board) : Type 0 where
   pub some-vertex : 1 ≤ B .vertices
-  pub vertex-limit : B .vertices ≤ vertexLimit
-  pub edge-limit : edges B ≤ edgeLimit
-  pub two-ends : length (B .ends) ≡ 2 * edges B
-  pub first-in-range : (e : ℕ) → e < edges B → firstEnd B e < B .vertices
-  pub second-in-range : (e : ℕ) → e < edges B → secondEnd B e < B .vertices
+  pub inside : Inside B
   pub ends-differ : (e : ℕ) → e < edges B → firstEnd B e ≢ secondEnd B e
   pub mark-in-range : (e : ℕ) → e < edges B → mark B e ≤ 3
+
+-- The board of n vertices and m edges with these ends whose marks are all 0. What looks at no marks (parts, growth, forests) is stated
+-- of it inside the crates, and holds with any marks (theory, `MarksAside`); no product call's contract names it.
+abbrev pub unmarked : ℕ → ℕ → List ℕ → Board
+unmarked n m ends = boardOf n ends (replicate m 0)
 
 -- Syndrome bytes (one for each vertex), loss bytes and handed-in bytes (one for each edge): n of them, each 0 or 1.
 pub record ValidBytes (n : ℕ) (l : List ℕ) : Type 0 where

@@ -1,5 +1,5 @@
--- Connected parts of the graph of all vertices and some edges. A part is named by its smallest vertex, the label of all its vertices,
--- so that "the one holding the smallest vertex number" is the one with the smallest label.
+-- Document 01, "Growth" (step 1) and "Peeling": the connected components, called parts, of the graph that has all vertices of a board and
+-- some of its edges. A part is named by its smallest vertex, the label of all its vertices, so that a tie (step 3) goes to the smallest label.
 -- Assumes nothing.
 use Prim.Native.Nat.{ℕ, zero, suc, min, max}
 use mathlib.Core.Bool.{cond}

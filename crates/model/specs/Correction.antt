@@ -17,9 +17,9 @@ without D e i = D i && not (eqb i e)
 unfoldable pub oddSide : Board → Set → Set → ℕ → Bool
 oddSide B D S v = let l = labels B D in odd B l S (label l v)
 
--- The correction is the one subset of the forest whose syndrome is the one put: edge e of the forest is in it exactly where cutting e
--- leaves an odd number of syndrome vertices on the side of its first end. That it has the syndrome, and alone of the forest's subsets,
--- is proved (theory, `correction-has-syndrome` and `correction-unique`).
+-- Edge e of the forest is in the correction exactly where cutting e leaves an odd number of S on the side of its first end. Where no
+-- cluster is odd the correction has the syndrome S, and no other subset of the forest ever has it (theory, `correction-has-syndrome` and
+-- `correction-unique`).
 unfoldable pub correction : Board → Set → Set → Set
 correction B F S e =
     let T = ones (bytes (edges B) (forest B F)) in

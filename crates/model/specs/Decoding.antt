@@ -14,7 +14,7 @@ use Rattle.model.specs.Correction.{correction}
 unfoldable pub parts : Board → List ℕ
 parts B = labels B (λ e. true)
 
--- v lies in a part of the whole board that holds an odd number of syndrome vertices
+-- v lies in an odd part: the connected component of v in the whole board has an odd number of vertices in S
 unfoldable pub inOddPart : Board → Set → ℕ → Bool
 inOddPart B S v = odd B (parts B) S (label (parts B) v)
 

@@ -1,4 +1,5 @@
--- Demand 3, as one statement over a decoding's result r and the correction C that it wrote, on a board with the syndrome S.
+-- Document 01, "Peeling": demand 3, as one statement over a decoding's result r and the correction C that it wrote, on a board with the
+-- syndrome S.
 -- Assumes nothing.
 use Prim.Native.Nat.{ℕ, _+_, _*_, _≤_, _<_}
 use mathlib.Core.Path.{_≡_}

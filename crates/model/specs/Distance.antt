@@ -1,4 +1,4 @@
--- Document 01, "Distance and torus": the fewest edges in a winding loop, by going through all sets of edges.
+-- Document 01, "Distance and torus": the distance, by going through all sets of edges.
 -- Assumes nothing.
 use Prim.Native.Nat.{ℕ, zero, suc, min}
 use mathlib.Core.Bool.{false, cond, _||_}
@@ -23,6 +23,6 @@ unfoldable pub fewestFrom : Board → ℕ → Set → Option ℕ
 fewestFrom B zero D = cond (winds B D) (some (size B D)) none
 fewestFrom B (suc e) D = lesser (fewestFrom B e D) (fewestFrom B e (with e D))
 
--- Distance: the fewest edges in a winding loop; without a winding loop, none.
+-- the distance: the least size of a winding set, or none where no set winds
 unfoldable pub fewest : Board → Option ℕ
 fewest B = fewestFrom B (edges B) (λ i. false)

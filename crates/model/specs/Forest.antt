@@ -12,12 +12,12 @@ use Rattle.model.specs.Components.{label, join}
 abbrev pub parted : Board → List ℕ → ℕ → Bool
 parted B l e = not (eqb (label l (firstEnd B e)) (label l (secondEnd B e)))
 
--- Go through the edges of F in rising number and take each whose ends aren't already joined by taken edges:
--- the labels by the edges taken below k
+-- The greedy spanning forest of F: the edges are tried by rising number, and one is taken where it closes no cycle with those taken before.
+-- Here, the labels by the edges taken below k.
 unfoldable pub takenUpTo : Board → Set → ℕ → List ℕ
 takenUpTo B F zero = values (B .vertices) (λ v. v)
 takenUpTo B F (suc e) = cond (F e && parted B (takenUpTo B F e) e) (join B e (takenUpTo B F e)) (takenUpTo B F e)
 
--- This is the forest.
+-- the forest: the edges of F that are taken when their turn comes
 unfoldable pub forest : Board → Set → Set
 forest B F e = F e && parted B (takenUpTo B F e) e

@@ -1,4 +1,5 @@
--- Document 01, "Growth", steps 1 to 4: the weighted growth of source document 000, sections 2, 4 and 5.
+-- Document 01, "Growth", steps 1 to 4: the weighted growth of source document 000 (its sections 2, 4 and 5). The steps settle what
+-- that text leaves open, ties and the unit of work.
 -- Assumes nothing.
 use Prim.Native.Nat.{ℕ, zero, suc, _+_, _*_, min}
 use mathlib.Core.Bool.{Bool, cond, not, _&&_}
@@ -11,36 +12,38 @@ use Rattle.model.specs.Board.{Board, edges, firstEnd, secondEnd}
 use Rattle.model.specs.Syndrome.{touches}
 use Rattle.model.specs.Components.{labels, within}
 
--- 1. Every edge has a support of 0, 1 or 2 half-edges. Lost edges start at 2, others at 0.
+-- Step 1: the supports before any growth, in half-edges (0, 1 or 2 for an edge): 2 for a lost edge, 0 for any other.
 unfoldable pub start : Board → Set → List ℕ
 start B lost = values (edges B) (λ e. cond (lost e) 2 0)
 
--- An edge at 2 is full.
+-- Step 1: edge e is full, that is, its support is 2.
 abbrev pub full : List ℕ → Set
 full s e = eqb (getD s e 0) 2
 
--- Clusters are the connected parts of the graph of all vertices and full edges.
+-- Step 1: the clusters, as labels: the connected components by full edges. A vertex that touches no full edge is a cluster of its own.
 unfoldable pub clusters : Board → List ℕ → List ℕ
 clusters B s = labels B (full s)
 
--- 2. A cluster is odd if it holds an odd number of syndrome vertices.
+-- Step 2: cluster a is odd, by the parity of its syndrome vertices. A label that no vertex has is never odd.
 unfoldable pub odd : Board → List ℕ → Set → ℕ → Bool
 odd B l S a = oddUpTo (B .vertices) (λ v. S v && within l a v)
 
--- v touches an edge that isn't full
+-- Step 2: v touches some edge that isn't full.
 unfoldable pub exposed : Board → List ℕ → ℕ → Bool
 exposed B s v = someUpTo (edges B) (λ e. touches B e v && not (full s e))
 
--- Its boundary size is the number of its vertices that touch an edge that isn't full.
+-- Step 2: the boundary size of cluster a. It counts exposed vertices, each once, and not the edges that leave the cluster.
 unfoldable pub boundary : Board → List ℕ → List ℕ → ℕ → ℕ
 boundary B s l a = countUpTo (B .vertices) (λ v. within l a v && exposed B s v)
 
--- 3. The odd cluster with the smallest boundary size grows; among equals, the one holding the smallest vertex number.
--- Cluster a, against the best of the clusters with smaller labels: it is taken only where it is strictly better.
+-- Step 3: of the odd clusters, the one to grow has the least boundary size, and in a tie the smallest label, its smallest vertex.
+-- Cluster a, against the best of the clusters with smaller labels: it is taken where it is odd and, if there is such a best one, its boundary
+-- size is strictly smaller.
 abbrev pub better : Board → List ℕ → List ℕ → Set → ℕ → Option ℕ → Option ℕ
 better B s l S a none = cond (odd B l S a) (some a) none
 better B s l S a (some c) = cond (odd B l S a && ltb (boundary B s l a) (boundary B s l c)) (some a) (some c)
 
+-- Step 3: the choice among the labels below a bound, and among all; none where no cluster is odd.
 unfoldable pub choiceUpTo : Board → List ℕ → List ℕ → Set → ℕ → Option ℕ
 choiceUpTo B s l S zero = none
 choiceUpTo B s l S (suc a) = better B s l S a (choiceUpTo B s l S a)
@@ -48,18 +51,18 @@ choiceUpTo B s l S (suc a) = better B s l S a (choiceUpTo B s l S a)
 unfoldable pub choice : Board → List ℕ → List ℕ → Set → Option ℕ
 choice B s l S = choiceUpTo B s l S (B .vertices)
 
--- 4. One growth of cluster a: each edge that isn't full gains as many half-edges as it has ends in the cluster, up to 2.
--- Clusters joined by newly full edges then fuse: the clusters are those of the new supports.
+-- Step 4: one growth of cluster a. An edge gains a half-edge for each of its ends in a, an inner edge thus two, but never has more than 2;
+-- a full edge stays as it is. Clusters fuse by definition: those of the new supports are the components by what is full now.
 unfoldable pub grow : Board → List ℕ → List ℕ → ℕ → List ℕ
 grow B s l a =
     values (edges B) (λ e. min 2 (getD s e 0 + bit (within l a (firstEnd B e)) + bit (within l a (secondEnd B e))))
 
--- supports, and how often step 4 was done to reach them
+-- supports, and the number of growths (step 4) that led to them
 pub record Grown : Type 0 where
   pub support : List ℕ
   pub growths : ℕ
 
--- 3. If no cluster is odd, growth ends.
+-- Step 3: without an odd cluster to choose, stop; otherwise grow the chosen one.
 abbrev pub chosen : {A : Type 0} → Option ℕ → A → (ℕ → A) → A
 chosen none stop grow = stop
 chosen (some a) stop grow = grow a

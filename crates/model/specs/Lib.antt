@@ -1,5 +1,6 @@
 pub mod Sums
 pub mod Board
+pub mod Lent
 pub mod Syndrome
 pub mod Winding
 pub mod Components

@@ -1,5 +1,5 @@
--- Document 01's "line from 1" of number 13, and document 02, K4: which number the line has that begins at a position of a text, and
--- which line is the first malformed one. Assumes nothing.
+-- Document 01, "Numbers and places" (the place of number 13), and document 02, K4: which number the line has that begins at a position of
+-- a text, counted from 1, and which line is the first malformed one. Assumes nothing.
 use Prim.Native.Nat.{ℕ, zero, suc, _+_, _≤_}
 use mathlib.Core.Path.{_≡_}
 use mathlib.Core.Bool.{cond}

@@ -1,4 +1,5 @@
--- The outcome of each call: its result and the final contents of every lent buffer, refused calls too.
+-- Document 01, "How far contracts go", 1: the outcome of decoding, verdict, distance and torus, that is, what the call answers and what every
+-- lent buffer holds when it is over, also where it refuses. Reading and writing are in `TextOutcomes`.
 -- Assumes nothing.
 use Prim.Native.Nat.{ℕ, _*_}
 use mathlib.Core.Path.{_≡_}
@@ -19,7 +20,8 @@ use Rattle.model.specs.Sums.{Set, ones, bytes}
 use Rattle.model.specs.Board.{Board, Sheet, edges}
 use Rattle.model.specs.Winding.{winds, size}
 use Rattle.model.specs.Decoding.{growths, supports, corrected}
-use Rattle.model.specs.Verdict.{judged}
+use Rattle.model.specs.Demand3.{Demand3}
+use Rattle.model.specs.Verdict.{judged, SoundVerdict}
 use Rattle.model.specs.Distance.{fewest}
 use Rattle.model.specs.Torus.{torusEnds, torusMarks}
 use Rattle.model.specs.Refusals.{Test, oddPartTest, decodeRefusal, verdictRefusal, distanceRefusal, torusRefusal}
@@ -36,7 +38,7 @@ keyOrNone X = answer (oddPartTest X) decoded.Refused (decoded.Key (growths X) (s
 unfoldable pub decodeAnswer : Sheet → List ℕ → List ℕ → Decoded
 decodeAnswer X support correction = answer (decodeRefusal X support correction) decoded.Refused (keyOrNone X)
 
--- A refusal writes nothing.
+-- what a buffer holds afterwards: with a key its new contents; with a refusal, which writes to no buffer, its old ones
 abbrev pub keyOr : {A : Type 0} → Decoded → A → A → A
 keyOr (decoded.Key g k) new old = new
 keyOr (decoded.Refused n) new old = old
@@ -47,18 +49,30 @@ pub record Decodes (X : Sheet) (support correction : List ℕ) (r : Decoded) (su
   pub support-bytes : support′ ≡ keyOr r (supports X) support
   pub correction-bytes : correction′ ≡ keyOr r (bytes (edges (X .board)) (corrected X)) correction
 
+-- Demand 3, of decoding's own result and of the correction that it wrote, wherever nothing that is lent is refused.
+pub record DecodesSoundly (X : Sheet) (support correction : List ℕ) (r : Decoded) (correction′ : List ℕ) : Type 0 where
+  pub demand3 :
+      decodeRefusal X support correction ≡ none →
+      Demand3 (X .board) (ones (X .syndrome)) (ones (X .loss)) r (ones correction′)
+
 -- The verdict's answer once its tests are passed: number 10 as decoding gives it, or the comparison with the correction.
 unfoldable pub judgedOrNone : Sheet → List ℕ → Verdict
 judgedOrNone X handed =
     answer (oddPartTest X) verdict.Refused (judged (X .board) (ones (X .syndrome)) (corrected X) (ones handed))
 
--- A refusal comes before the others.
+-- The verdict's answer. Refusals come first: a broken rule, then number 10; only where there is neither are the sets compared.
 unfoldable pub verdictAnswer : Sheet → List ℕ → Verdict
 verdictAnswer X handed = answer (verdictRefusal X handed) verdict.Refused (judgedOrNone X handed)
 
 -- What the verdict returns; it fills no buffer.
 pub record Judges (X : Sheet) (handed : List ℕ) (r : Verdict) : Type 0 where
   pub result : r ≡ verdictAnswer X handed
+
+-- What a marker may rely on, wherever nothing that is lent is refused.
+pub record JudgesSoundly (X : Sheet) (handed : List ℕ) (r : Verdict) : Type 0 where
+  pub sound :
+      verdictRefusal X handed ≡ none →
+      SoundVerdict (X .board) (ones (X .syndrome)) (ones (X .loss)) (corrected X) (ones handed) r
 
 -- The distance, or none.
 abbrev pub distanceOf : Option ℕ → Distance
@@ -68,13 +82,14 @@ distanceOf (some d) = distance.Fewest d
 unfoldable pub distanceAnswer : Board → List ℕ → Distance
 distanceAnswer B shown = answer (distanceRefusal B shown) distance.Refused (distanceOf (fewest B))
 
--- One such loop in the lent buffer; any loop of that size will do.
+-- The buffer holds a winding set of d edges, a byte for each edge. Which one is free.
 pub record ShowsLoop (B : Board) (d : ℕ) (l : List ℕ) : Type 0 where
   pub set : Set
   pub winding : winds B set ≡ true
   pub fewest : size B set ≡ d
   pub written : l ≡ bytes (edges B) set
 
+-- what the buffer holds afterwards: such a set, all 0 where no set winds, and after a refusal its old contents
 abbrev pub Shows : Board → List ℕ → Distance → List ℕ → Type 0
 Shows B old (distance.Fewest d) l = ShowsLoop B d l
 Shows B old distance.Nothing l = l ≡ replicate (edges B) 0
@@ -84,7 +99,7 @@ pub record Measures (B : Board) (shown : List ℕ) (r : Distance) (shown′ : Li
   pub result : r ≡ distanceAnswer B shown
   pub loop : Shows B shown r shown′
 
--- The builder returns the vertex count and fills exactly 4L² ends and 2L² marks.
+-- The torus builder answers with the number of vertices, L². Its buffers end as 4L² ends and 2L² marks, or as they were where it refuses.
 unfoldable pub torusAnswer : ℕ → List ℕ → List ℕ → Built
 torusAnswer L ends marks = answer (torusRefusal L ends marks) built.Refused (built.Vertices (L * L))
 

@@ -1,5 +1,5 @@
--- Document 01, "Numbers and places": which refusal a call gives where several apply. "The smallest number that applies wins, then the
--- smallest place" is said here of a list of rules whose numbers rise, and of any list by its own order. Two numbers stand in no list:
+-- Document 01, "Numbers and places": which refusal a call gives where several apply. It is the least in the order by number and then by
+-- place; this is said here of a list of rules whose numbers rise, and of any list by its own order. Two numbers stand in no list:
 -- decoding and the verdict test for 10 once no rule of their lists is broken, and the reader finds 13 line by line once none of its own is.
 -- Assumes nothing.
 use Prim.Native.Nat.{ℕ, _≤_, _<_}

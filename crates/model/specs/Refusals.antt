@@ -2,15 +2,16 @@
 -- Assumes nothing.
 use Prim.Native.Nat.{ℕ, _*_, _/_, _%_}
 use mathlib.Core.Bool.{Bool, cond, _&&_, _||_}
-use mathlib.Core.List.{List, [], _∷_, map}
+use mathlib.Core.List.{List, [], _∷_, _++_, map}
 use mathlib.Core.Option.{Option, none, some}
 use lib.ListN.{length, getD}
 use lib.Dec.{eqb, leb, ltb}
 use Rattle.model.specs.declared.refusal.Refusal.{Refusal}
 use Rattle.model.specs.declared.refusal.Refusal.the-variants.{VertexCount, EndCount, BufferLength, EndRange, EqualEnds, MarkRange, SyndromeByte, LossByte, HandedByte, NoCorrection, TorusSide, TextLength, MalformedLine, TextBuffer}
 use Rattle.model.specs.Sums.{Set, ones, firstUpTo}
-use Rattle.model.specs.Board.{Board, Sheet, edges, firstEnd, secondEnd, mark, vertexLimit, edgeLimit}
+use Rattle.model.specs.Board.{Board, Sheet, edges, firstEnd, secondEnd, vertexLimit, edgeLimit}
 use Rattle.model.specs.Decoding.{smallestOdd}
+use Rattle.model.specs.Torus.{leastSide, largestSide}
 
 -- the number of each refusal
 abbrev pub numberOf : Refusal → ℕ
@@ -73,7 +74,7 @@ tested (whole kept r) = unless kept r
 tested (each n broken at) = firstPlace n broken at
 
 -- The rules of a call are tested in the order of its list, and the first test that fails decides. Where the list has the rules in the order
--- of their numbers, the smallest number that applies wins, then the smallest place (`Precedence`).
+-- of their numbers, that is the smallest number of a broken rule, with the smallest place that breaks it (`Precedence`).
 abbrev pub firstFailure : List Test → Test
 firstFailure [] = none
 firstFailure (some n ∷ tests) = some n
@@ -82,79 +83,98 @@ firstFailure (none ∷ tests) = firstFailure tests
 abbrev pub refusalOf : List Rule → Test
 refusalOf rules = firstFailure (map tested rules)
 
--- 1: vertex count 0 or above 1,024
+-- Rule 1: there are 1 to 1,024 vertices.
 abbrev pub vertexCountRule : ℕ → Rule
 vertexCountRule n = whole (leb 1 n && leb n vertexLimit) VertexCount
 
--- 2: odd count of ends, or above 8,192
+-- Rule 2, of a board that is given: its ends are even in number, and at most 8,192.
 abbrev pub endCountRule : List ℕ → Rule
 endCountRule ends = whole (eqb (length ends % 2) 0 && leb (length ends) (2 * edgeLimit)) EndCount
 
--- 3: another lent buffer has the wrong length
+-- Rule 3: every other buffer that is lent has its length.
 abbrev pub sized : {A : Type 0} → List A → ℕ → Bool
 sized l n = eqb (length l) n
 
 abbrev pub lengthRule : Bool → Rule
 lengthRule ok = whole ok BufferLength
 
--- 4: an end at or above the vertex count
+-- Rule 4: both ends of an edge are below the vertex count.
+abbrev pub outside : Board → Set
+outside B e = leb (B .vertices) (firstEnd B e) || leb (B .vertices) (secondEnd B e)
+
 abbrev pub endRangeRule : Board → Rule
-endRangeRule B =
-    each (edges B) (λ e. leb (B .vertices) (firstEnd B e) || leb (B .vertices) (secondEnd B e))
-    (λ e. EndRange (record { 0 = e }))
+endRangeRule B = each (edges B) (outside B) (λ e. EndRange (record { 0 = e }))
 
--- 5: equal ends
+-- Rule 5: the ends of an edge differ.
+abbrev pub endsEqual : Board → Set
+endsEqual B e = eqb (firstEnd B e) (secondEnd B e)
+
 abbrev pub equalEndsRule : Board → Rule
-equalEndsRule B = each (edges B) (λ e. eqb (firstEnd B e) (secondEnd B e)) (λ e. EqualEnds (record { 0 = e }))
+equalEndsRule B = each (edges B) (endsEqual B) (λ e. EqualEnds (record { 0 = e }))
 
--- 6: mark above 3
+-- Rule 6: a mark is at most 3. Rules 7, 8 and 9: a byte of the syndrome, of the loss, of the handed-in set is at most 1.
+abbrev pub above : ℕ → List ℕ → Set
+above limit l i = ltb limit (getD l i 0)
+
 abbrev pub markRule : Board → Rule
-markRule B = each (edges B) (λ e. ltb 3 (mark B e)) (λ e. MarkRange (record { 0 = e }))
-
--- 7, 8, 9: a byte above 1
-abbrev pub aboveOne : List ℕ → Set
-aboveOne l i = ltb 1 (getD l i 0)
+markRule B = each (edges B) (above 3 (B .marks)) (λ e. MarkRange (record { 0 = e }))
 
 abbrev pub syndromeRule : List ℕ → Rule
-syndromeRule l = each (length l) (aboveOne l) (λ v. SyndromeByte (record { 0 = v }))
+syndromeRule l = each (length l) (above 1 l) (λ v. SyndromeByte (record { 0 = v }))
 
 abbrev pub lossRule : List ℕ → Rule
-lossRule l = each (length l) (aboveOne l) (λ e. LossByte (record { 0 = e }))
+lossRule l = each (length l) (above 1 l) (λ e. LossByte (record { 0 = e }))
 
 abbrev pub handedRule : List ℕ → Rule
-handedRule l = each (length l) (aboveOne l) (λ e. HandedByte (record { 0 = e }))
+handedRule l = each (length l) (above 1 l) (λ e. HandedByte (record { 0 = e }))
 
--- 10: some part of the whole board is odd; the place is the smallest vertex of all odd parts
+-- Number 10, a test and no rule of a list: some part of the whole board is odd; the place is the smallest vertex of all odd parts.
 abbrev pub noneAt : ℕ → Refusal
 noneAt v = NoCorrection (record { 0 = v })
 
 abbrev pub oddPartTest : Sheet → Test
 oddPartTest X = refusedAt (smallestOdd (X .board) (ones (X .syndrome))) noneAt
 
--- 11: torus side outside 2 to 32
+-- Rule 11: a torus has side 2 to 32; the place is the side that was asked for.
 abbrev pub sideRule : ℕ → Rule
-sideRule L = whole (leb 2 L && leb L 32) (TorusSide L)
+sideRule L = whole (leb leastSide L && leb L largestSide) (TorusSide L)
 
 -- how many edges the ends stand for: what the other lengths are held to
 abbrev pub edgesOf : List ℕ → ℕ
 edgesOf ends = length ends / 2
 
--- Each call tests what it is lent. Decoding and the verdict test for number 10 as well, once all rules of their lists are kept: it asks
--- for the parts of a board that keeps the rules. Decoding is lent a sheet and two buffers to fill.
+-- What calls share, in the order of the tests. The counts, where `fit` says that every other lent buffer has its length: 1 to 3 ..
+abbrev pub countRules : ℕ → List ℕ → Bool → List Rule
+countRules vertices ends fit = vertexCountRule vertices ∷ endCountRule ends ∷ lengthRule fit ∷ []
+
+-- .. then the edges: 4 to 6
+abbrev pub edgeRules : Board → List Rule
+edgeRules B = endRangeRule B ∷ equalEndsRule B ∷ markRule B ∷ []
+
+-- a board; `others` says that each buffer lent beside it has its length
+unfoldable pub boardRules : Board → Bool → List Rule
+boardRules B others = countRules (B .vertices) (B .ends) (sized (B .marks) (edgesOf (B .ends)) && others) ++ edgeRules B
+
+-- then the bytes of a sheet: 7 and 8
+abbrev pub byteRules : List ℕ → List ℕ → List Rule
+byteRules syndrome loss = syndromeRule syndrome ∷ lossRule loss ∷ []
+
+-- the syndrome has a byte for each vertex, the loss one for each edge
+abbrev pub bytesSized : Sheet → Bool
+bytesSized X = sized (X .syndrome) (X .board .vertices) && sized (X .loss) (edgesOf (X .board .ends))
+
+-- a sheet; `others` says that each buffer lent beside it has its length
+unfoldable pub sheetRules : Sheet → Bool → List Rule
+unfolding boardRules
+sheetRules X others = boardRules (X .board) (bytesSized X && others) ++ byteRules (X .syndrome) (X .loss)
+
+-- Each call's list covers all that it is lent. Decoding and the verdict test for number 10 as well, once all rules of their lists are kept: it
+-- asks for the parts of a board that keeps the rules. Decoding is lent a sheet and two buffers to fill.
 unfoldable pub decodeRules : Sheet → List ℕ → List ℕ → List Rule
+unfolding sheetRules
 decodeRules X support correction =
-    let B = X .board in
-    let m = edgesOf (B .ends) in
-    vertexCountRule (B .vertices)
-    ∷ endCountRule (B .ends)
-    ∷ lengthRule
-    (sized (B .marks) m && sized (X .syndrome) (B .vertices) && sized (X .loss) m && sized support m && sized correction m)
-    ∷ endRangeRule B
-    ∷ equalEndsRule B
-    ∷ markRule B
-    ∷ syndromeRule (X .syndrome)
-    ∷ lossRule (X .loss)
-    ∷ []
+    let m = edgesOf (X .board .ends) in
+    sheetRules X (sized support m && sized correction m)
 
 unfoldable pub decodeRefusal : Sheet → List ℕ → List ℕ → Test
 unfolding decodeRules
@@ -162,19 +182,8 @@ decodeRefusal X support correction = refusalOf (decodeRules X support correction
 
 -- The verdict is lent a sheet and a handed-in set.
 unfoldable pub verdictRules : Sheet → List ℕ → List Rule
-verdictRules X handed =
-    let B = X .board in
-    let m = edgesOf (B .ends) in
-    vertexCountRule (B .vertices)
-    ∷ endCountRule (B .ends)
-    ∷ lengthRule (sized (B .marks) m && sized (X .syndrome) (B .vertices) && sized (X .loss) m && sized handed m)
-    ∷ endRangeRule B
-    ∷ equalEndsRule B
-    ∷ markRule B
-    ∷ syndromeRule (X .syndrome)
-    ∷ lossRule (X .loss)
-    ∷ handedRule handed
-    ∷ []
+unfolding sheetRules
+verdictRules X handed = sheetRules X (sized handed (edgesOf (X .board .ends))) ++ (handedRule handed ∷ [])
 
 unfoldable pub verdictRefusal : Sheet → List ℕ → Test
 unfolding verdictRules
@@ -182,21 +191,15 @@ verdictRefusal X handed = refusalOf (verdictRules X handed)
 
 -- The distance is lent a board and a buffer for the loop shown.
 unfoldable pub distanceRules : Board → List ℕ → List Rule
-distanceRules B shown =
-    let m = edgesOf (B .ends) in
-    vertexCountRule (B .vertices)
-    ∷ endCountRule (B .ends)
-    ∷ lengthRule (sized (B .marks) m && sized shown m)
-    ∷ endRangeRule B
-    ∷ equalEndsRule B
-    ∷ markRule B
-    ∷ []
+unfolding boardRules
+distanceRules B shown = boardRules B (sized shown (edgesOf (B .ends)))
 
 unfoldable pub distanceRefusal : Board → List ℕ → Test
 unfolding distanceRules
 distanceRefusal B shown = refusalOf (distanceRules B shown)
 
--- The torus builder is lent buffers for 4L² ends and 2L² marks; these lengths are tested only once the side is in range.
+-- The torus builder is lent buffers for 4L² ends and 2L² marks. A side that breaks rule 11 is refused first, whatever the lengths; any other
+-- length is then 3, also of the ends, which are to be filled and not given.
 unfoldable pub torusRules : ℕ → List ℕ → List ℕ → List Rule
 torusRules L ends marks =
     sideRule L

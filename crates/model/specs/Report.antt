@@ -40,16 +40,17 @@ unfoldable pub edgeLines : List ℕ → List ℕ
 edgeLines [] = []
 edgeLines (e ∷ es) = reportLine letterC (e ∷ []) ++ edgeLines es
 
--- a line `D` with the distance or `-`
+-- the line `D`: the distance, or `-` where no set winds
 unfoldable pub distanceLine : Option ℕ → List ℕ
 distanceLine none = letterD ∷ tab ∷ dash ∷ newline ∷ []
 distanceLine (some d) = reportLine letterD (d ∷ [])
 
--- A refusal prints only a line `N`, number, place.
+-- the line `N` of a refusal, its number and its place, which is then all that is printed
 unfoldable pub refusalLine : Refusal → List ℕ
 refusalLine n = reportLine letterN (numberOf n ∷ placeOf n ∷ [])
 
--- A key prints a line `G` with growths, a line `C` for each correction edge, rising, and the line of the distance.
+-- The report of a key: the line `G` with the number of growths, then for each edge of the correction, by rising number, a line `C` (none where
+-- the correction is empty), then the line `D`.
 unfoldable pub keyReport : Sheet → List ℕ
 keyReport X =
     reportLine letterG (growths X ∷ [])

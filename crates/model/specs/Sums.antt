@@ -1,4 +1,5 @@
--- Sets of numbers, and what is added up, counted or looked for below a bound. Every definition of this crate is made of these.
+-- For every section of document 01: sets of numbers, and what is added up, counted or looked for below a bound. Every definition of this
+-- crate is made of these.
 -- Assumes nothing.
 use Prim.Native.Nat.{ℕ, zero, suc, _+_}
 use mathlib.Core.Bool.{Bool, true, false, cond, not, _||_}

@@ -1,4 +1,4 @@
--- Document 01, "Board and loops": the syndrome of an edge set.
+-- Document 01, "Board and loops": the syndrome of a set of edges.
 -- Assumes nothing.
 use Prim.Native.Nat.{ℕ, _<_}
 use mathlib.Core.Path.{_≡_}
@@ -15,7 +15,7 @@ meets B e v = eqb (firstEnd B e) v ⊕ eqb (secondEnd B e) v
 abbrev pub touches : Board → ℕ → ℕ → Bool
 touches B e v = eqb (firstEnd B e) v || eqb (secondEnd B e) v
 
--- The syndrome of an edge set is the set of vertices touching an odd number of its edges.
+-- the syndrome of D: the vertices whose degree in D is odd
 unfoldable pub syndrome : Board → Set → Set
 syndrome B D v = oddUpTo (edges B) (λ e. D e && meets B e v)
 

@@ -1,4 +1,4 @@
--- Document 01, "Text": the one text of a board with its syndrome and losses, and the reading of a text line by line.
+-- Document 01, "Text": the one text of a sheet, and the reading of a text line by line.
 -- A text is a list of bytes. Assumes nothing.
 use Prim.Native.Nat.{ℕ, zero, suc, _+_, _*_, _-_, _/_, _%_}
 use mathlib.Core.Bool.{Bool, true, false, cond, not, _&&_}
@@ -21,7 +21,8 @@ tab = 9
 abbrev pub digitZero : ℕ
 digitZero = 48
 
--- The four kinds of line: `V` and the vertex count; `E`, two ends and a mark; `S` and a syndrome vertex; `X` and a lost edge.
+-- The four kinds of line, by their letters: `V` has the number of vertices, `E` the ends and the mark of an edge, `S` a vertex of the syndrome,
+-- `X` an edge that is lost.
 pub data Line : Type 0 where
   V-line : ℕ → Line
   E-line : ℕ → ℕ → ℕ → Line
@@ -55,12 +56,12 @@ numbersOf (X-line e) = e ∷ []
 
 -- Writing
 
--- Numbers are base ten without leading zeros: nothing stands before a last digit that is the only one.
+-- No number has a leading zero: before the last digit stand the digits of the rest, and nothing where the rest is 0.
 abbrev pub before : ℕ → (ℕ → List ℕ) → List ℕ
 before zero digits = []
 before (suc n) digits = digits (suc n)
 
--- the digits of n, which has at most k + 1 of them
+-- the digits of n in base ten, of which there are at most k + 1
 unfoldable pub decimalUpTo : ℕ → ℕ → List ℕ
 decimalUpTo zero n = (digitZero + n % 10) ∷ []
 decimalUpTo (suc k) n = before (n / 10) (decimalUpTo k) ++ ((digitZero + n % 10) ∷ [])
@@ -68,7 +69,7 @@ decimalUpTo (suc k) n = before (n / 10) (decimalUpTo k) ++ ((digitZero + n % 10)
 unfoldable pub decimal : ℕ → List ℕ
 decimal n = decimalUpTo n n
 
--- Fields are parted by one tab.
+-- a field for each number, each with one tab in front
 unfoldable pub fieldsOf : List ℕ → List ℕ
 fieldsOf [] = []
 fieldsOf (n ∷ ns) = tab ∷ decimal n ++ fieldsOf ns
@@ -76,7 +77,7 @@ fieldsOf (n ∷ ns) = tab ∷ decimal n ++ fieldsOf ns
 unfoldable pub bytesOf : Line → List ℕ
 bytesOf l = letterOf l ∷ fieldsOf (numbersOf l)
 
--- Lines end in a newline byte.
+-- the bytes of each line with a newline after them, the last line too
 unfoldable pub printed : List Line → List ℕ
 printed [] = []
 printed (l ∷ ls) = bytesOf l ++ newline ∷ printed ls
@@ -84,7 +85,8 @@ printed (l ∷ ls) = bytesOf l ++ newline ∷ printed ls
 abbrev pub edgeLine : Board → ℕ → Line
 edgeLine B e = E-line (firstEnd B e) (secondEnd B e) (mark B e)
 
--- In order: `V` and the vertex count; `E` for each edge; `S` for each syndrome vertex, rising; `X` for each lost edge, rising.
+-- The lines of a sheet: one `V` line, then the edges as `E` lines by their numbers, then the syndrome as `S` lines and the loss as `X` lines,
+-- both rising.
 unfoldable pub linesOf : Sheet → List Line
 linesOf sheet =
     let B = sheet .board in
@@ -93,7 +95,8 @@ linesOf sheet =
     ++ map S-line (members (B .vertices) (ones (sheet .syndrome)))
     ++ map X-line (members (edges B) (ones (sheet .loss)))
 
--- Each board with its syndrome and losses has one text.
+-- The text of a sheet. It and `readText` are inverse to each other between valid sheets and texts that read (theory, `read-written` and
+-- `written-read`), of any length; the two calls add the limit of number 12 (`TextOutcomes`).
 unfoldable pub textOf : Sheet → List ℕ
 textOf sheet = printed (linesOf sheet)
 
@@ -159,12 +162,12 @@ pub data Read : Type 0 where
   complete : Sheet → Read
   refused : Refusal → Read
 
--- A line that doesn't read ends the reading there: number 13 with the line, counted from 1.
+-- At the first malformed line reading stops: number 13, and its place is the number k of that line, counted from 1.
 abbrev pub orMalformed : {A : Type 0} → ℕ → Option A → (A → Read) → Read
 orMalformed k none go = refused (MalformedLine k)
 orMalformed k (some a) go = go a
 
--- The `V` line stands first and once: 1 to 1,024 vertices, none in the syndrome and no edge as yet.
+-- The first line and no other is a `V` line (`step`), with 1 to 1,024 vertices. The sheet then has no edge as yet, and an empty syndrome.
 abbrev pub firstLine : Line → Option ℕ
 firstLine (V-line n) = cond (leb 1 n && leb n vertexLimit) (some n) none
 firstLine (E-line a b m) = none
@@ -174,7 +177,8 @@ firstLine (X-line e) = none
 abbrev pub begun : ℕ → Sheet
 begun n = record { board = record { vertices = n; ends = []; marks = [] }; syndrome = replicate n 0; loss = [] }
 
--- `E` lines come next; equal ones are two edges, and one edge too many is malformed. The ends differ, and each field is in range.
+-- `E` lines follow the `V` line or one another, at most 4,096 of them; equal ones are parallel edges. The ends are two different vertices, and
+-- the mark is at most 3.
 abbrev pub edgeMayFollow : Line → Bool
 edgeMayFollow (V-line n) = true
 edgeMayFollow (E-line a b m) = true
@@ -194,7 +198,7 @@ withEdge sheet a b m =
       loss = sheet .loss ++ (0 ∷ []);
     }
 
--- Then the `S` lines, rising, which rules out repeats.
+-- An `S` line may follow any line but an `X` line. Its vertex is above that of an `S` line right before it, so none is named twice.
 abbrev pub syndromeMayFollow : Line → ℕ → Bool
 syndromeMayFollow (V-line n) v = true
 syndromeMayFollow (E-line a b m) v = true
@@ -204,7 +208,7 @@ syndromeMayFollow (X-line e) v = false
 abbrev pub withSyndrome : Sheet → ℕ → Sheet
 withSyndrome sheet v = record { board = sheet .board; syndrome = set (sheet .syndrome) v 1; loss = sheet .loss }
 
--- Then the `X` lines, rising.
+-- An `X` line may follow any line. Its edge is above that of an `X` line right before it, so none is named twice.
 abbrev pub lossMayFollow : Line → ℕ → Bool
 lossMayFollow (V-line n) e = true
 lossMayFollow (E-line a b m) e = true

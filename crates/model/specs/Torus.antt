@@ -7,14 +7,21 @@ use lib.Dec.{eqb}
 use Rattle.model.specs.Sums.{values}
 use Rattle.model.specs.Board.{Board}
 
--- Vertex (r, c) is r × L + c: its row and its column.
+-- the sides of the tori that are built
+abbrev pub leastSide : ℕ
+leastSide = 2
+
+abbrev pub largestSide : ℕ
+largestSide = 32
+
+-- the row r and the column c of vertex v = rL + c
 abbrev pub row : ℕ → ℕ → ℕ
 row L v = v / L
 
 abbrev pub column : ℕ → ℕ → ℕ
 column L v = v % L
 
--- Edges 2v and 2v + 1 belong to vertex v. The first goes to (r, c+1), the second to (r+1, c), modulo L.
+-- Edge 2v goes from v to its right neighbour (in column c + 1), edge 2v + 1 to its neighbour below (in row r + 1), both modulo L.
 abbrev pub rightOf : ℕ → ℕ → ℕ
 rightOf L v = row L v * L + (column L v + 1) % L
 
@@ -27,7 +34,8 @@ torusFrom e = e / 2
 abbrev pub torusTo : ℕ → ℕ → ℕ
 torusTo L e = cond (eqb (e % 2) 0) (rightOf L (e / 2)) (below L (e / 2))
 
--- The first kind has mark 1 where c = L - 1, the second mark 2 where r = L - 1, others 0.
+-- Edge 2v has mark 1 where it leads from the last column to the first, edge 2v + 1 mark 2 where it leads from the last row to the first. All
+-- other marks are 0.
 abbrev pub torusMark : ℕ → ℕ → ℕ
 torusMark L e =
     cond (eqb (e % 2) 0) (cond (eqb (column L (e / 2)) (L - 1)) 1 0) (cond (eqb (row L (e / 2)) (L - 1)) 2 0)
@@ -36,7 +44,7 @@ torusMark L e =
 abbrev pub torusEnd : ℕ → ℕ → ℕ
 torusEnd L i = cond (eqb (i % 2) 0) (torusFrom (i / 2)) (torusTo L (i / 2))
 
--- exactly 4L² ends and 2L² marks
+-- the two edges of each of the L² vertices: 4L² ends and 2L² marks
 unfoldable pub torusEnds : ℕ → List ℕ
 torusEnds L = values (4 * (L * L)) (torusEnd L)
 

@@ -14,15 +14,16 @@ use Rattle.model.specs.Syndrome.{syndrome, HasSyndrome}
 use Rattle.model.specs.Winding.{closed, winds, crossings, together}
 use Rattle.model.specs.Demand3.{AnswersNone, Unmet, EveryLoopAbove, lostEdges, keptEdges}
 
--- the smallest vertex at which H's syndrome differs from the one put
+-- the smallest vertex where the syndrome of H is not S, if there is one
 unfoldable pub differs : Board → Set → Set → Option ℕ
 differs B S H = firstUpTo (B .vertices) (λ v. syndrome B H v ⊕ S v)
 
--- same if the exclusive or of the marks is 0, else wound with that value
+-- by x, the exclusive or over the marks of H and C together: 0 is same, and 1 to 3 is wound with this x
 abbrev pub compared : ℕ → Verdict
 compared x = cond (eqb x 0) Same (Wound x)
 
--- Off with that vertex; otherwise H and the correction together are closed, and their marks decide.
+-- Off with v, the smallest vertex where the two syndromes differ. Without one, H has the syndrome of C, so that H and C together are closed,
+-- and x decides.
 abbrev pub judgedAt : Option ℕ → ℕ → Verdict
 judgedAt (some v) x = Off (record { 0 = v })
 judgedAt none x = compared x

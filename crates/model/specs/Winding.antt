@@ -1,4 +1,4 @@
--- Document 01, "Board and loops": closed sets (cycles) and winding sets (cycles that are no boundary), told apart by the marks.
+-- Document 01, "Board and loops": closed sets (cycles modulo 2) and winding sets (cycles whose marks do not cancel).
 -- Assumes nothing.
 use Prim.Native.Nat.{ℕ, _+_, _*_, _/_, _%_}
 use mathlib.Core.Bool.{Bool, not, _&&_}
@@ -7,7 +7,7 @@ use Rattle.model.specs.Sums.{Set, _⊕_, bit, oddUpTo, countUpTo, someUp
 use Rattle.model.specs.Board.{Board, edges, mark}
 use Rattle.model.specs.Syndrome.{syndrome}
 
--- An edge set is closed if its syndrome is empty.
+-- D is closed, a cycle modulo 2: every vertex has even degree in it
 unfoldable pub closed : Board → Set → Bool
 closed B D = not (someUpTo (B .vertices) (syndrome B D))
 
@@ -23,11 +23,11 @@ unfoldable pub crossings : Board → Set → ℕ
 crossings B D =
     bit (oddUpTo (edges B) (λ e. D e && crossesA B e)) + 2 * bit (oddUpTo (edges B) (λ e. D e && crossesB B e))
 
--- It winds if it is closed and the exclusive or of its marks isn't 0. A winding loop is a set that winds.
+-- D winds, that is, D is a winding loop: a closed set that crosses line A or line B an odd number of times
 unfoldable pub winds : Board → Set → Bool
 winds B D = closed B D && not (eqb (crossings B D) 0)
 
--- Two sets together are their exclusive or: an edge in both cancels.
+-- D and E together: their symmetric difference, the edges that lie in exactly one of them
 abbrev pub together : Set → Set → Set
 together D E e = D e ⊕ E e
 

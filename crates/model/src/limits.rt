@@ -1,8 +1,18 @@
+// The limits of what is lent. They stand here alone.
+
 // The largest vertex count of a board.
 pub const VERTICES: usize = 1024;
 
 // The largest edge count of a board.
 pub const EDGES: usize = 4096;
 
+// The ends of that many edges.
+pub const ENDS: usize = 2 * EDGES;
+
 // The largest number of bytes of a text that is read or written.
 pub const TEXT: usize = 65536;
+
+// The smallest and the largest side of a torus that is built.
+pub const LEAST_SIDE: usize = 2;
+
+pub const LARGEST_SIDE: usize = 32;

@@ -1,4 +1,6 @@
 // Three kinds of number. Each is a type of its own, so that none can stand where another is meant.
+ghost use mathlib.Core.Path.{_≡_};
+ghost use lib.Dec.{eqb};
 
 // A vertex number, from 0.
 pub struct Vertex(pub u16);
@@ -8,3 +10,15 @@ pub struct Edge(pub u16);
 
 // A count of half-edges: the support of an edge.
 pub struct HalfEdges(pub u8);
+
+// The support of a full edge.
+pub const FULL: HalfEdges = HalfEdges(2);
+
+impl HalfEdges {
+    // Says whether an edge with this support is full.
+    pub fn is_full(self) -> bool
+        ensures { λ r. ⌜ r ≡ eqb (self .0) 2 ⌝ }
+    {
+        self.0 == FULL.0
+    }
+}

@@ -1,13 +1,12 @@
 -- The pass over the edges: joining the ends of each makes the trees the parts of the whole board. Assumes nothing.
 use Prim.Native.Nat.{ℕ, _+_, _*_, _≤_, _<_}
-use mathlib.Core.Path.{_≡_, refl}
+use mathlib.Core.Path.{_≡_, refl, sym}
 use mathlib.Core.Bool.{true}
 use mathlib.Core.List.{List}
-use native.Mathlib.Nat.{le-refl}
+use native.Mathlib.Nat.{le-of-eq}
 use native.Mathlib.Numerals.{add-one}
-use native.Mathlib.Omega.{arith}
-use lib.ListN.{length, getD, replicate, length-replicate}
-use Rattle.model.specs.Board.{boardOf, vertexLimit}
+use lib.ListN.{getD, replicate, length-replicate}
+use Rattle.model.specs.Board.{EndsWithin, unmarked, vertexLimit}
 use Rattle.model.specs.Components.{labels}
 use Rattle.model.specs.Decoding.{parts}
 use Rattle.model.specs.Refusals.{edgesOf}
@@ -18,7 +17,6 @@ use Rattle.union_find.specs.Joining.{Joins}
 use Rattle.union_find.proofs.Fresh.{alone-trees}
 use Rattle.union_find.proofs.Unions.{joins-trees}
 use Rattle.union_find.proofs.Labels.{mirrors-alone, mirrors-joined}
-use Rattle.parts.specs.Lent.{Ends}
 use Rattle.parts.specs.Connection.{ConnectsUpTo, Connects}
 
 -- fresh arrays have room for n vertices
@@ -30,20 +28,21 @@ fresh-room m limit fits =
 -- at first every vertex is alone
 pub connects-none : {n : ℕ} {ends p s : List ℕ} → Alone n p s → ConnectsUpTo n ends 0 p s
 connects-none {n} {ends} w =
-    record { trees = alone-trees w; mirrors = λ marks. mirrors-alone (boardOf n ends marks) (λ e. true) w }
+    record { trees = alone-trees w; mirrors = mirrors-alone (unmarked n (edgesOf ends) ends) (λ e. true) w }
 
 -- then each edge joins its ends
 pub connects-more :
-    {n e : ℕ} {ends p s : List ℕ} → Ends n ends → e < edgesOf ends → ConnectsUpTo n ends e p s → {r : Joined} {p′ s′ : List ℕ}
-    → Joins p s (getD ends (2 * e) 0) (getD ends (2 * e + 1) 0) r p′ s′ → ConnectsUpTo n ends (e + 1) p′ s′
-connects-more {n} {e} {ends} w h c k =
+    {n e a b : ℕ} {ends p s : List ℕ} → EndsWithin n (edgesOf ends) ends → e < edgesOf ends → ConnectsUpTo n ends e p s
+    → a ≡ getD ends (2 * e) 0 → b ≡ getD ends (2 * e + 1) 0 → {r : Joined} {p′ s′ : List ℕ} → Joins p s a b r p′ s′
+    → ConnectsUpTo n ends (e + 1) p′ s′
+connects-more {n} {e} {ends = ends} w h c first second k =
+    let B = unmarked n (edgesOf ends) ends in
+    let joins = rw (first, second) at k in
+    let long = le-of-eq (sym (labels-length B (λ e. true) e)) in
     rw (add-one e)
     (record {
-      trees = joins-trees (c .trees) (w .first e h) (w .second e h) k;
-      mirrors = λ marks.
-          let B = boardOf n ends marks in
-          mirrors-joined B (λ e. true) e refl (c .mirrors marks) (c .trees) (rw (labels-length B (λ e. true) e) (le-refl _))
-          (w .first e h) (w .second e h) k;
+      trees = joins-trees (c .trees) (w .first-in-range e h) (w .second-in-range e h) joins;
+      mirrors = mirrors-joined B (λ e. true) e refl (c .mirrors) (c .trees) long (w .first-in-range e h) (w .second-in-range e h) joins;
     })
 
 -- and the last edge leaves the parts of the whole board
@@ -52,7 +51,5 @@ unfolding parts labels
 connects-whole {n} {ends} {p} {s} c =
     record {
       rooted = record { size = s; climbs = c .trees .climbs };
-      mirrors = λ marks two.
-          let count : edgesOf ends ≡ length marks = omega arith in
-          rw count at (c .mirrors marks);
+      mirrors = rw (length-replicate {A = ℕ} (edgesOf ends) 0) (c .mirrors);
     }

@@ -14,7 +14,7 @@ use Rattle.model.specs.Board.{vertexLimit}
 use Rattle.model.proofs.Xor.{xor-false}
 use Rattle.model.proofs.Bits.{bit-bound, bit-flip}
 use Rattle.union_find.specs.Trees.{rootOf}
-use Rattle.parts.specs.Parity.{oddAtRoot, Parities}
+use Rattle.parts.specs.RootParities.{oddAtRoot, Parities}
 
 -- at first every parity is even
 pub parities-none : {parent syndrome : List ℕ} (m : ℕ) → m ≡ vertexLimit → Parities 0 parent syndrome (replicate m 0)

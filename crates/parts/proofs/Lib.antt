@@ -2,4 +2,3 @@ pub mod Rooting
 pub mod Connecting
 pub mod Flipping
 pub mod Marking
-pub mod ValidSheets

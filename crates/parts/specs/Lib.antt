@@ -1,4 +1,3 @@
-pub mod Lent
+pub mod Searchable
 pub mod Connection
-pub mod Parity
-pub mod Answer
+pub mod RootParities

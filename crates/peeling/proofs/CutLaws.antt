@@ -9,7 +9,7 @@ use lib.ListN.{getD}
 use Rattle.model.specs.Sums.{_⊕_}
 use Rattle.model.proofs.Xor.{xor-false, xor-assoc}
 use Rattle.union_find.specs.Trees.{at, under}
-use Rattle.peeling.specs.Flips.{oddBelow, Flipped}
+use Rattle.peeling.specs.TreeFlips.{oddBelow, Flipped}
 use Rattle.peeling.specs.Links.{noVertex}
 use Rattle.peeling.specs.Peeling.{isCut, Cuts}
 

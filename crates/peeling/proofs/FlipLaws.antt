@@ -15,7 +15,7 @@ use Rattle.model.specs.Sums.{Set, _⊕_, oddUpTo}
 use Rattle.model.proofs.Xor.{xor-false, xor-assoc, xor-comm}
 use Rattle.union_find.specs.Trees.{at, InTrees, under}
 use Rattle.union_find.proofs.Subtrees.{under-root, under-parent}
-use Rattle.peeling.specs.Flips.{oddBelow, Flippable, Flipped, AllFlippable, AllFlipped}
+use Rattle.peeling.specs.TreeFlips.{oddBelow, Flippable, Flipped, AllFlippable, AllFlipped}
 
 -- vertex v flips, and the way up has reached w: what lies from w on is still to do
 pub record Flipping (p : List ℕ) (v : ℕ) (odd₀ : List Bool) (w : ℕ) (odd : List Bool) : Type 0 where

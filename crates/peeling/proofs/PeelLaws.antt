@@ -8,27 +8,25 @@ use mathlib.Core.Bool.{Bool, true, false, _&&_, and-true, and-false, and-comm, a
 use mathlib.Core.List.{List}
 use native.Mathlib.Decide.{ℕ-discrete, decLt}
 use native.Mathlib.Omega.{arith}
-use borrow.Author.Needs.{zero≤}
 use borrow.Author.Tests.{eq-eqb, ne-eqb, lt-ltb, le-ltb}
 use lib.ListN.{length, set}
 use lib.Seq.{getD-set-same, getD-set-other}
 use lib.Dec.{eqb, ltb}
 use Rattle.model.specs.Sums.{Set, _⊕_, bit, oddUpTo, countUpTo}
-use Rattle.model.specs.Board.{Board, edges, firstEnd, secondEnd, vertexLimit}
+use Rattle.model.specs.Board.{Board, Inside, edges, firstEnd, secondEnd}
 use Rattle.model.specs.Syndrome.{meets, syndrome, HasSyndrome}
-use Rattle.model.specs.Winding.{size, together}
+use Rattle.model.specs.Winding.{together}
 use Rattle.model.specs.Components.{label, labelsUpTo}
 use Rattle.model.specs.Forest.{forest}
 use Rattle.model.proofs.Xor.{xor-false, xor-and, equal-xor, not-true-false, xor-twice}
 use Rattle.model.proofs.SumLaws.{odd-cong, odd-xor, odd-and, odd-none}
-use Rattle.model.proofs.ListLaws.{values-are}
-use Rattle.theory.proofs.Syndromes.{InRange, syndrome-cong, syndrome-together, syndrome-edge, ends-parity, cut}
+use Rattle.theory.proofs.Syndromes.{syndrome-cong, syndrome-together, syndrome-edge, ends-parity, cut}
 use Rattle.theory.proofs.Components.{edge-label}
 use Rattle.theory.proofs.Forests.{Within, forest-inside, forest-parted}
 use Rattle.union_find.specs.Trees.{at, under}
-use Rattle.peeling.specs.Flips.{oddBelow, AllFlipped}
+use Rattle.peeling.specs.TreeFlips.{oddBelow, AllFlipped}
 use Rattle.peeling.specs.Links.{noVertex, HungBy, Link, unlinked, linked}
-use Rattle.peeling.specs.Peeling.{isCut, endsUnder, Cuts, Writes}
+use Rattle.peeling.specs.Peeling.{isCut, endsUnder, Cuts}
 
 -- the edges of D below k
 abbrev pub lower : ℕ → Set → Set
@@ -49,7 +47,7 @@ lower-next k D e =
 pub leftIn : Board → Set → Set → ℕ → Bool
 leftIn B D A k = oddUpTo (B .vertices) (λ u. syndrome B (lower k D) u && A u)
 
-module _ (B : Board) (r : InRange B) (D : Set) where
+module _ (B : Board) (r : Inside B) (D : Set) where
   -- edge k flips its ends
   syndrome-next : (k : ℕ) → k < edges B → (u : ℕ) → syndrome B (lower (suc k) D) u ≡ syndrome B (lower k D) u ⊕ (D k && meets B k u)
   syndrome-next k h u =
@@ -106,9 +104,9 @@ module _ (B : Board) (r : InRange B) (D : Set) where
 
       together-below : (e : ℕ) → e < edges B → e < k → D e ≡ true → under p x (firstEnd B e) ≡ under p x (secondEnd B e)
       together-below e u less d =
-          w .below (firstEnd B e) (r .first e u)
+          w .below (firstEnd B e) (r .first-in-range e u)
           ∙ ap (λ a. eqb a (label l (w .end))) (edge-label B F k e less (forest-inside B F e (sub .holds e u d)))
-          ∙ sym (w .below (secondEnd B e) (r .second e u))
+          ∙ sym (w .below (secondEnd B e) (r .second-in-range e u))
 
       differ : label l (firstEnd B k) ≡ label l (secondEnd B k) → ⊥
       differ = forest-parted B F k (w .in-forest)
@@ -118,7 +116,7 @@ module _ (B : Board) (r : InRange B) (D : Set) where
 
       apart : (under p x (firstEnd B k) ⊕ under p x (secondEnd B k)) ≡ true
       apart =
-          ap₂ _⊕_ (w .below (firstEnd B k) (r .first k h)) (w .below (secondEnd B k) (r .second k h))
+          ap₂ _⊕_ (w .below (firstEnd B k) (r .first-in-range k h)) (w .below (secondEnd B k) (r .second-in-range k h))
           ∙ ⊎-elim
           (λ q. ap₂ _⊕_ (eq-eqb _ _ (sym (at-end q))) (ne-eqb _ _ (λ e. differ (sym (e ∙ at-end q)))))
           (λ q. ap₂ _⊕_ (ne-eqb _ _ (λ e. differ (e ∙ at-end q))) (eq-eqb _ _ (sym (at-end q))))
@@ -130,7 +128,7 @@ module _ (B : Board) (r : InRange B) (D : Set) where
 pub record Peeling (B : Board) (D : Set) (p : List ℕ) (k : ℕ) (below : List Bool) (written : List ℕ) (count : ℕ) : Type 0 where
   pub parity : (z : ℕ) → z < B .vertices → at p z ≢ z → oddBelow below z ≡ leftIn B D (under p z) k
   pub bits : (e : ℕ) → k ≤ e → e < edges B → at written e ≡ bit (D e)
-  pub counted : count + countUpTo k D ≡ size B D
+  pub counted : count + countUpTo k D ≡ countUpTo (edges B) D
 
 pub peeling-start : (B : Board) (D S : Set) (p : List ℕ) (clear below : List Bool) (written : List ℕ) → HasSyndrome B D S
     → ((z : ℕ) → oddBelow clear z ≡ false) → AllFlipped p (B .vertices) S clear below → Peeling B D p (edges B) below written 0
@@ -148,23 +146,14 @@ peeling-start B D S p clear below written has none all =
       counted = omega arith;
     }
 
-pub peeling-done : {B : Board} {D : Set} {p : List ℕ} {below : List Bool} {written : List ℕ} {count : ℕ}
-    → Peeling B D p 0 below written count → length written ≡ edges B → Writes B D count written
-unfolding countUpTo
-peeling-done {B} {D} {written = written} w long =
-    record {
-      count = omega (arith, w .counted);
-      bytes-are = values-are (edges B) (λ e. bit (D e)) written long (λ e h. w .bits e zero≤ h);
-    }
-
-module _ (B : Board) (r : InRange B) (limit : B .vertices ≤ vertexLimit) (F D : Set) (sub : Within B D (forest B F)) where
+module _ (B : Board) (r : Inside B) (F D : Set) (sub : Within B D (forest B F)) where
   -- an edge is cut exactly where D has it
   cut-is : (links : List ℕ) {p : List ℕ} {k : ℕ} {below : List Bool} {written : List ℕ} {count : ℕ} → k < edges B
       → Link B F p k (at links k) → Peeling B D p (suc k) below written count → isCut links below k ≡ D k
   cut-is links {k = k} h (unlinked out none) w =
       rw (eq-eqb _ _ none) (sym (not-true-false (D k) (λ q. false≢true (sym out ∙ sub .holds k h q))))
   cut-is links {p} {k} h (linked y) w =
-      rw (ne-eqb (at links k) noVertex (λ q. omega (arith, y .vertex)))
+      rw (ne-eqb (at links k) noVertex (λ q. omega (arith, y .vertex, r .vertex-limit)))
       (w .parity (at links k) (y .vertex) (y .not-root) ∙ link-odd B r D F sub p k (at links k) h y)
 
   pub peeling-next : {p links : List ℕ} {k : ℕ} {below : List Bool} {written : List ℕ} {count : ℕ} {c : ℕ} {below′ : List Bool}

@@ -1,5 +1,5 @@
 -- The links of the forest, edge by edge: what one more edge adds, and that it leaves the links before it. Assumes nothing.
-use Prim.Native.Nat.{ℕ, _+_, _*_, _≤_, _<_}
+use Prim.Native.Nat.{ℕ, _+_, _≤_, _<_}
 use mathlib.Core.Path.{_≡_, refl, sym, ap, _∙_}
 use mathlib.Core.Logic.{_≢_, _⊎_, inl, inr, ⊎-elim}
 use mathlib.Core.Bool.{true, not}
@@ -9,11 +9,11 @@ use native.Mathlib.Numerals.{add-one}
 use native.Mathlib.Decide.{ℕ-discrete}
 use native.Mathlib.Omega.{arith}
 use borrow.Author.Tests.{eq-eqb, ne-eqb}
-use lib.ListN.{length, getD, set, length-set, replicate, length-replicate}
+use lib.ListN.{length, set, length-set, replicate, length-replicate}
 use lib.Seq.{getD-set-same, getD-set-other}
 use lib.Dec.{eqb}
 use Rattle.model.specs.Sums.{Set}
-use Rattle.model.specs.Board.{Board, boardOf, firstEnd, secondEnd}
+use Rattle.model.specs.Board.{Board, EndsWithin, unmarked, firstEnd, secondEnd}
 use Rattle.model.specs.Components.{labelsUpTo}
 use Rattle.model.specs.Growth.{full}
 use Rattle.model.specs.Forest.{forest}
@@ -28,7 +28,6 @@ use Rattle.union_find.proofs.Fresh.{alone-trees}
 use Rattle.union_find.proofs.Subtrees.{under-top, under-hung}
 use Rattle.union_find.proofs.Unions.{Hung-is, hung-is, already-is, joins-trees}
 use Rattle.union_find.proofs.Labels.{mirrors-alone, mirrors-joined, mirrors-passed}
-use Rattle.peeling.specs.Lent.{Lent}
 use Rattle.peeling.specs.Links.{linkOf, Takes, passed, joined, HungBy, Link, unlinked, linked, SpanRoom, Spans}
 
 -- the trees mirror the labels by the edges of F below k, each of which has its link
@@ -106,70 +105,66 @@ stored P l k r h here before e less =
 
 -- The loop over the edges
 
--- the edges below k are done, whatever the marks
+-- the edges below k are done
 pub record Spanning (vertices : ℕ) (ends support p size links : List ℕ) (k : ℕ) : Type 0 where
   pub trees : Trees vertices p size
   pub room : length support ≤ length links
-  pub below : (marks : List ℕ) → length marks ≡ length support → SpansUpTo (boardOf vertices ends marks) (full support) p links k
+  pub below : SpansUpTo (unmarked vertices (length support) ends) (full support) p links k
 
-pub spanning-start : {vertices : ℕ} {ends support p size links : List ℕ} → Alone vertices p size → length support ≤ length links
-    → Spanning vertices ends support p size links 0
-spanning-start {vertices} {ends} {support} a room =
-    record {
+pub spanning-start : {vertices k : ℕ} {ends support p size links : List ℕ} → k ≡ 0 → Alone vertices p size
+    → length support ≤ length links → Spanning vertices ends support p size links k
+spanning-start {vertices} {ends = ends} {support} none a room =
+    rw none
+    (record {
       trees = alone-trees a;
       room = room;
-      below = λ marks q.
-          record { mirrors = mirrors-alone (boardOf vertices ends marks) (full support) a; each = λ e h. absurd (not-suc-le-zero h) };
-    }
+      below = record {
+        mirrors = mirrors-alone (unmarked vertices (length support) ends) (full support) a;
+        each = λ e h. absurd (not-suc-le-zero h);
+      };
+    })
 
-pub spanning-next : {vertices : ℕ} {ends support p s links : List ℕ} {k r : ℕ} {p′ s′ : List ℕ} → Lent vertices ends support
-    → Spanning vertices ends support p s links k → k < length support → Takes ends support p s k r p′ s′
-    → Spanning vertices ends support p′ s′ (set links k r) (k + 1)
-spanning-next {vertices} {ends} {support} {p} {s} {links} {k} {r} {p′} {s′} lent w h (passed out none same-p same-s) =
-    rw (same-p, same-s)
+pub spanning-next : {vertices k k′ r : ℕ} {ends support p s links p′ s′ : List ℕ} → EndsWithin vertices (length support) ends
+    → Spanning vertices ends support p s links k → Takes ends support p s k r p′ s′ → k < length support → k′ ≡ k + 1
+    → Spanning vertices ends support p′ s′ (set links k r) k′
+spanning-next {vertices} {k} {r = r} {ends} {support} {p} {links = links} board w (passed out none same-p same-s) h next =
+    let B = unmarked vertices (length support) ends in
+    rw (next, same-p, same-s)
     (record {
       trees = w .trees;
       room = rw (length-set links k r) (w .room);
-      below = λ marks q.
-          let B = boardOf vertices ends marks in
-          let o = w .below marks q in
-          record {
-            mirrors = rw (add-one k) (mirrors-passed B (full support) k out (o .mirrors));
-            each =
-                stored (Link B (full support) p) links k r (omega (arith, w .room))
-                (unlinked (forest-is B (full support) k ∙ rw out) none) (o .each);
-          };
+      below = record {
+        mirrors = rw (add-one k) (mirrors-passed B (full support) k out (w .below .mirrors));
+        each =
+            stored (Link B (full support) p) links k r (omega (arith, w .room))
+            (unlinked (forest-is B (full support) k ∙ rw out) none) (w .below .each);
+      };
     })
-spanning-next {vertices} {ends} {support} {p} {s} {links} {k} {r} {p′} {s′} lent w h (joined is-full j i link) =
-    record {
+spanning-next {vertices} {k} {r = r} {ends} {support} {links = links} {p′} board w (joined is-full j i link) h next =
+    let B = unmarked vertices (length support) ends in
+    let ha = board .first-in-range k h in
+    let hb = board .second-in-range k h in
+    let long = le-of-eq (sym (labels-length B (full support) k)) in
+    let n = links-joined B (full support) k (w .trees) (w .below .mirrors) ha hb is-full i in
+    rw next
+    (record {
       trees = joins-trees (w .trees) ha hb i;
       room = rw (length-set links k r) (w .room);
-      below = λ marks q.
-          let B = boardOf vertices ends marks in
-          let o = w .below marks q in
-          let n = links-joined B (full support) k (w .trees) (o .mirrors) ha hb is-full i in
-          record {
-            mirrors =
-                let long = le-of-eq (sym (labels-length B (full support) k)) in
-                rw (add-one k) (mirrors-joined B (full support) k is-full (o .mirrors) (w .trees) long ha hb i);
-            each =
-                stored (Link B (full support) p′) links k r (omega (arith, w .room))
-                (rw link (n .0)) (λ e l. n .1 e (at links e) (o .each e l));
-          };
-    }
-  where
-    ha : getD ends (2 * k) 0 < vertices
-    ha = lent .first-in-range k h
+      below = record {
+        mirrors = rw (add-one k) (mirrors-joined B (full support) k is-full (w .below .mirrors) (w .trees) long ha hb i);
+        each =
+            stored (Link B (full support) p′) links k r (omega (arith, w .room))
+            (rw link (n .0)) (λ e l. n .1 e (at links e) (w .below .each e l));
+      };
+    })
 
-    hb : getD ends (2 * k + 1) 0 < vertices
-    hb = lent .second-in-range k h
-
-pub spanning-done : {vertices : ℕ} {ends support p size links : List ℕ} → Spanning vertices ends support p size links (length support)
-    → Spans vertices ends support p links
-spanning-done {size = size} w = record { size = size; trees = w .trees; each = λ marks q. w .below marks q .each }
+pub spanning-done : {vertices k : ℕ} {ends support p size links : List ℕ} → k ≡ length support
+    → Spanning vertices ends support p size links k → Spans vertices ends support p links
+spanning-done {size = size} all w =
+    record { size = size; trees = w .trees; each = λ e h. w .below .each e (omega (arith, all, h)) }
 
 -- the fresh sizes
 pub fresh-room : {vertices : ℕ} {ends support p links : List ℕ} (k : ℕ) → vertices ≤ k → SpanRoom vertices ends support p links
     → Room vertices p (replicate k 0)
 fresh-room k h w =
-    record { limit = w .lent .vertex-limit; parents = w .parents; sizes = rw (length-replicate {A = ℕ} k 0) h }
+    record { limit = w .board .vertex-limit; parents = w .parents; sizes = rw (length-replicate {A = ℕ} k 0) h }

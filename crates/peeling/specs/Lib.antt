@@ -1,4 +1,3 @@
-pub mod Flips
-pub mod Lent
+pub mod TreeFlips
 pub mod Links
 pub mod Peeling

@@ -9,7 +9,7 @@ use mathlib.Core.List.{List}
 use lib.ListN.{length, getD}
 use lib.Dec.{eqb}
 use Rattle.model.specs.Sums.{Set}
-use Rattle.model.specs.Board.{Board, boardOf, firstEnd, secondEnd, vertexLimit}
+use Rattle.model.specs.Board.{Board, EndsWithin, unmarked, firstEnd, secondEnd, vertexLimit}
 use Rattle.model.specs.Components.{label, labelsUpTo}
 use Rattle.model.specs.Growth.{full}
 use Rattle.model.specs.Forest.{forest}
@@ -17,7 +17,6 @@ use Rattle.union_find.specs.declared.Joined.{Joined}
 use Rattle.union_find.specs.declared.Joined.the-variants.{Hung, Already}
 use Rattle.union_find.specs.Trees.{at, Trees, under}
 use Rattle.union_find.specs.Joining.{Joins}
-use Rattle.peeling.specs.Lent.{Lent}
 
 -- the link of an edge: the vertex that it hangs, or this number where it hangs none
 abbrev pub noVertex : ℕ
@@ -30,7 +29,7 @@ linkOf (Already root) = noVertex
 -- the arrays may take edge e
 pub record Takeable (ends support parent size : List ℕ) (e : ℕ) : Type 0 where
   pub vertices : ℕ
-  pub lent : Lent vertices ends support
+  pub board : EndsWithin vertices (length support) ends
   pub trees : Trees vertices parent size
   pub edge : e < length support
 
@@ -56,7 +55,7 @@ pub data Link (B : Board) (F : Set) (parent : List ℕ) (e x : ℕ) : Type 0 whe
 
 -- there is room for the trees and the links
 pub record SpanRoom (vertices : ℕ) (ends support parent links : List ℕ) : Type 0 where
-  pub lent : Lent vertices ends support
+  pub board : EndsWithin vertices (length support) ends
   pub parents : vertices ≤ length parent
   pub room : length support ≤ length links
 
@@ -64,5 +63,4 @@ pub record SpanRoom (vertices : ℕ) (ends support parent links : List ℕ) : Ty
 pub record Spans (vertices : ℕ) (ends support parent links : List ℕ) : Type 0 where
   pub size : List ℕ
   pub trees : Trees vertices parent size
-  pub each : (marks : List ℕ) → length marks ≡ length support → (e : ℕ) → e < length support
-      → Link (boardOf vertices ends marks) (full support) parent e (at links e)
+  pub each : (e : ℕ) → e < length support → Link (unmarked vertices (length support) ends) (full support) parent e (at links e)

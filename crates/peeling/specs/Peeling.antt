@@ -7,24 +7,21 @@ use mathlib.Core.Bool.{Bool, false, not, _&&_}
 use mathlib.Core.List.{List}
 use lib.ListN.{length, getD}
 use lib.Dec.{eqb}
-use Rattle.model.specs.Sums.{Set, _⊕_, bit, ones, bytes}
-use Rattle.model.specs.Board.{Board, boardOf, edges, edgeLimit}
-use Rattle.model.specs.Winding.{size}
+use Rattle.model.specs.Sums.{Set, _⊕_, bit, ones, bytes, countUpTo}
+use Rattle.model.specs.Board.{Board, EndsWithin, unmarked}
 use Rattle.model.specs.Growth.{full, odd, clusters}
 use Rattle.model.specs.Correction.{correction}
 use Rattle.union_find.specs.Trees.{at, under}
-use Rattle.peeling.specs.Flips.{oddBelow, AllFlippable}
-use Rattle.peeling.specs.Lent.{Lent}
+use Rattle.peeling.specs.TreeFlips.{oddBelow, AllFlippable}
 use Rattle.peeling.specs.Links.{noVertex}
 
 -- edge e may be cut: its ends may flip, and its link, if it has one, is a vertex
 pub record Cuttable (ends parent links : List ℕ) (below : List Bool) (e : ℕ) : Type 0 where
   pub vertices : ℕ
+  pub edges : ℕ
+  pub board : EndsWithin vertices edges ends
+  pub edge : e < edges
   pub flippable : AllFlippable vertices parent below
-  pub edge : e < edgeLimit
-  pub ends-lent : 2 * e + 1 < length ends
-  pub first : getD ends (2 * e) 0 < vertices
-  pub second : getD ends (2 * e + 1) 0 < vertices
   pub link : at links e ≢ noVertex → at links e < vertices
 
 -- edge e is cut for the correction: it has a link, and what hangs there is odd
@@ -46,24 +43,19 @@ pub record Cuts (ends parent links : List ℕ) (below : List Bool) (e r : ℕ) (
 pub record NoOddCluster (B : Board) (support syndrome : List ℕ) : Type 0 where
   pub even : (a : ℕ) → a < B .vertices → odd B (clusters B support) (ones syndrome) a ≡ false
 
--- What is lent, with a syndrome byte for each vertex and a correction byte for each edge. No cluster of the full edges is odd, whatever
--- the marks of the board: otherwise there is no correction.
+-- What is lent, with a syndrome byte for each vertex and a correction byte for each edge. No cluster of the full edges is odd: otherwise
+-- there is no correction.
 pub record Peelable (vertices : ℕ) (ends support syndrome correction : List ℕ) : Type 0 where
-  pub lent : Lent vertices ends support
+  pub board : EndsWithin vertices (length support) ends
   pub syndrome-bytes : length syndrome ≡ vertices
   pub correction-bytes : length correction ≡ length support
-  pub even : (marks : List ℕ) → length marks ≡ length support → NoOddCluster (boardOf vertices ends marks) support syndrome
+  pub even : NoOddCluster (unmarked vertices (length support) ends) support syndrome
 
--- the correction on the board with these marks
-abbrev pub correctionOf : ℕ → List ℕ → List ℕ → List ℕ → List ℕ → Set
-correctionOf vertices ends support syndrome marks = correction (boardOf vertices ends marks) (full support) (ones syndrome)
+-- the correction of the full edges
+abbrev pub correctionOf : ℕ → List ℕ → List ℕ → List ℕ → Set
+correctionOf vertices ends support syndrome = correction (unmarked vertices (length support) ends) (full support) (ones syndrome)
 
--- the set D as bytes, and its size
-pub record Writes (B : Board) (D : Set) (r : ℕ) (written : List ℕ) : Type 0 where
-  pub count : r ≡ size B D
-  pub bytes-are : written ≡ bytes (edges B) D
-
--- The correction is written, and its size returned, whatever the marks of the board.
+-- its size is returned, and it is written as bytes
 pub record Peels (vertices : ℕ) (ends support syndrome : List ℕ) (r : ℕ) (written : List ℕ) : Type 0 where
-  pub corrected : (marks : List ℕ) → length marks ≡ length support
-      → Writes (boardOf vertices ends marks) (correctionOf vertices ends support syndrome marks) r written
+  pub count : r ≡ countUpTo (length support) (correctionOf vertices ends support syndrome)
+  pub bytes-are : written ≡ bytes (length support) (correctionOf vertices ends support syndrome)

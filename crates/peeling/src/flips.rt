@@ -2,13 +2,14 @@
 use model::limits::VERTICES;
 use model::numbers::Vertex;
 ghost use lib.ListN.{length};
+ghost use Rattle.model.specs.Lent.{before, after};
 ghost use Rattle.model.specs.Sums.{ones};
-ghost use Rattle.peeling.specs.Flips.{Flippable, Flipped, AllFlippable, AllFlipped};
+ghost use Rattle.peeling.specs.TreeFlips.{Flippable, Flipped, AllFlippable, AllFlipped};
 
 // Vertex v flips: every vertex on the way from v up to its root has another parity below it. The entry of a root stays.
 pub fn flip(parent: &[u16; VERTICES], odd: &mut [bool; VERTICES], v: Vertex)
     requires { ⌜ Flippable (now parent) (now odd) (v .0) ⌝ }
-    ensures { λ r. ⌜ Flipped (now (parent .entry)) (v .0) (now (odd .entry)) (now (odd .exit)) ⌝ }
+    ensures { λ r. ⌜ Flipped (before parent) (v .0) (before odd) (after odd) ⌝ }
 {
     let mut w = v.0;
     loop {
@@ -24,7 +25,8 @@ pub fn flip(parent: &[u16; VERTICES], odd: &mut [bool; VERTICES], v: Vertex)
 // Every syndrome vertex flips.
 pub fn flip_syndrome(syndrome: &[u8], parent: &[u16; VERTICES], odd: &mut [bool; VERTICES])
     requires { ⌜ AllFlippable (length (now syndrome)) (now parent) (now odd) ⌝ }
-    ensures { λ r. ⌜ AllFlipped (now (parent .entry)) (length (now (syndrome .entry))) (ones (now (syndrome .entry))) (now (odd .entry)) (now (odd .exit)) ⌝ }
+    ensures { λ r.
+        ⌜ AllFlipped (before parent) (length (before syndrome)) (ones (before syndrome)) (before odd) (after odd) ⌝ }
 {
     for v in 0..syndrome.len() {
         if syndrome[v] == 1 {

@@ -1,14 +1,15 @@
 // The spanning forest of the full edges, as a union-find makes it: an edge whose ends are already joined is passed over, any other
 // hangs one tree under the root of another.
+use model::ends::first_end;
+use model::ends::second_end;
 use model::limits::EDGES;
 use model::limits::VERTICES;
 use model::numbers::Edge;
+use model::numbers::HalfEdges;
 use model::numbers::Vertex;
 use union_find::Joined;
+ghost use Rattle.model.specs.Lent.{before, after};
 ghost use Rattle.peeling.specs.Links.{Takeable, Takes, SpanRoom, Spans};
-
-// The support of a full edge.
-const FULL: u8 = 2;
 
 // The link of an edge that hangs no tree. It is no vertex.
 pub const NONE: u16 = VERTICES as u16;
@@ -22,16 +23,17 @@ fn take(
     edge: Edge,
 ) -> Vertex
     requires { ⌜ Takeable (now ends) (now support) (now parent) (now size) (edge .0) ⌝ }
-    ensures { λ r. ⌜ Takes (now (ends .entry)) (now (support .entry)) (now (parent .entry)) (now (size .entry)) (edge .0) (r .0) (now (parent .exit)) (now (size .exit)) ⌝ }
+    ensures { λ r.
+        ⌜ Takes (before ends) (before support) (before parent) (before size) (edge .0) (r .0) (after parent) (after size) ⌝ }
 {
     let e = edge.0 as usize;
-    if support[e] != FULL {
+    let half = HalfEdges(support[e]);
+    if !half.is_full() {
         return Vertex(NONE);
     }
-    let i = 2 * e;
-    let a = ends[i];
-    let b = ends[i + 1];
-    match union_find::join(parent, size, Vertex(a), Vertex(b)) {
+    let a = first_end(ends, edge);
+    let b = second_end(ends, edge);
+    match union_find::join(parent, size, a, b) {
         Joined::Hung { child, root: _ } => child,
         Joined::Already(_) => Vertex(NONE),
     }
@@ -46,12 +48,17 @@ pub fn span(
     links: &mut [u16; EDGES],
 )
     requires { ⌜ SpanRoom vertices (now ends) (now support) (now parent) (now links) ⌝ }
-    ensures { λ r. ⌜ Spans vertices (now (ends .entry)) (now (support .entry)) (now (parent .exit)) (now (links .exit)) ⌝ }
+    ensures { λ r. ⌜ Spans vertices (before ends) (before support) (after parent) (after links) ⌝ }
 {
     let mut size = [0u16; VERTICES];
     union_find::alone(vertices, parent, &mut size);
-    for e in 0..support.len() {
+    let edges = support.len();
+    // `left` edges are still to be looked at, in rising number.
+    let mut left = edges;
+    while 0 < left {
+        let e = edges - left;
         let number = e as u16;
         links[e] = take(ends, support, parent, &mut size, Edge(number)).0;
+        left -= 1;
     }
 }

@@ -2,10 +2,12 @@
 mod flips;
 mod forest;
 
+use model::ends::first_end;
+use model::ends::second_end;
 use model::limits::EDGES;
 use model::limits::VERTICES;
 use model::numbers::Edge;
-use model::numbers::Vertex;
+ghost use Rattle.model.specs.Lent.{before, after};
 ghost use Rattle.peeling.specs.Peeling.{Cuttable, Cuts, Peelable, Peels};
 
 // The edge is cut: 1 if it is in the correction, which is where an odd number of what is left hangs at its link and below. Then its ends
@@ -18,7 +20,7 @@ fn cut(
     edge: Edge,
 ) -> u8
     requires { ⌜ Cuttable (now ends) (now parent) (now links) (now odd) (edge .0) ⌝ }
-    ensures { λ r. ⌜ Cuts (now (ends .entry)) (now (parent .entry)) (now (links .entry)) (now (odd .entry)) (edge .0) r (now (odd .exit)) ⌝ }
+    ensures { λ r. ⌜ Cuts (before ends) (before parent) (before links) (before odd) (edge .0) r (after odd) ⌝ }
 {
     let e = edge.0 as usize;
     let link = links[e];
@@ -28,11 +30,10 @@ fn cut(
     if !odd[link as usize] {
         return 0;
     }
-    let i = 2 * e;
-    let a = ends[i];
-    let b = ends[i + 1];
-    flips::flip(parent, odd, Vertex(a));
-    flips::flip(parent, odd, Vertex(b));
+    let a = first_end(ends, edge);
+    let b = second_end(ends, edge);
+    flips::flip(parent, odd, a);
+    flips::flip(parent, odd, b);
     1
 }
 
@@ -47,7 +48,7 @@ pub fn peel(
     correction: &mut [u8],
 ) -> usize
     requires { ⌜ Peelable vertices (now ends) (now support) (now syndrome) (now correction) ⌝ }
-    ensures { λ r. ⌜ Peels vertices (now (ends .entry)) (now (support .entry)) (now (syndrome .entry)) r (now (correction .exit)) ⌝ }
+    ensures { λ r. ⌜ Peels vertices (before ends) (before support) (before syndrome) r (after correction) ⌝ }
 {
     let mut parent = [0u16; VERTICES];
     let mut links = [0u16; EDGES];

@@ -14,7 +14,7 @@ use Rattle.model.specs.Board.{Board, Sheet, Valid, edges}
 use Rattle.model.specs.Winding.{size}
 use Rattle.model.specs.Decoding.{smallestOdd, growths, corrected}
 use Rattle.model.specs.Distance.{fewest}
-use Rattle.model.specs.Refusals.{noneAt}
+use Rattle.model.specs.Refusals.{noneAt, distanceRefusal}
 use Rattle.model.specs.Outcomes.{keyOrNone, keyOr, Decodes, distanceOf, distanceAnswer}
 use Rattle.model.specs.Report.{letterG, letterC, edgeLines, distanceLine, refusalLine, keyReport, sheetReport}
 use Rattle.model.proofs.Contradiction.{zero-one}
@@ -22,16 +22,17 @@ use Rattle.model.proofs.ListLaws.{length-values, ones-bytes}
 use Rattle.theory.proofs.MarkedBytes.{members-cong}
 use Rattle.theory.proofs.AnswerBounds.{growths-bound}
 use Rattle.theory.proofs.Decodings.{passed-answer, none-answer, key-answer}
-use Rattle.board.proofs.Calls.{passes-decode, passes-distance}
+use Rattle.board.proofs.Validity.{passes-board, enough-long}
+use Rattle.board.proofs.Calls.{passes-decode}
 use Rattle.text.specs.Printing.{numberBytes, listedBytes}
 use Rattle.text.proofs.PrintLaws.{listed-short}
-use Rattle.report.specs.Lines.{fewestIn, keyLines, Keyed, Decodable}
-use Rattle.report.proofs.LineLaws.{line-bytes, edges-listed, number-short, distance-short}
+use Rattle.report.specs.ReportLines.{fewestIn, keyLines, Keyed, Decodable}
+use Rattle.report.proofs.ReportLineLaws.{line-bytes, edges-listed, number-short, distance-short}
 
 -- the distance of a valid board is no refusal
 no-refusal : (B : Board) (shown : List ℕ) → Valid B → length shown ≡ edges B → distanceAnswer B shown ≡ distanceOf (fewest B)
-unfolding distanceAnswer
-no-refusal B shown w long = rw (passes-distance B shown (record { board = w; shown-long = long }))
+unfolding distanceAnswer distanceRefusal
+no-refusal B shown w long = rw (passes-board B _ (record { board = w; fit = enough-long B shown w long }))
 
 pub measured : (B : Board) (shown : List ℕ) (r : Distance) → Valid B → length shown ≡ edges B → r ≡ distanceAnswer B shown
     → fewestIn r ≡ fewest B
@@ -48,7 +49,7 @@ module _ (B : Board) (growths : ℕ) (correction shown out : List ℕ) (w : Keye
 
   pub key-room : length (numberBytes letterG growths) + length lines + length (distanceLine (fewest B)) ≤ length out
   key-room =
-      let limit = w .board .edge-limit in
+      let limit = w .board .inside .edge-limit in
       let first = number-short letterG growths (omega (arith, w .few-growths, limit)) in
       let second = listed-short letterC (ones correction) (length correction) (omega (arith, w .correction-long, limit)) in
       omega (arith, first, second, distance-short B (w .board), w .correction-long, limit, w .room .long)
@@ -85,49 +86,51 @@ key-lines X =
     m : ℕ
     m = edges (X .board)
 
-module _ (X : Sheet) (support correction support′ correction′ out : List ℕ) (lent : Decodable X support correction out) where
-  result : (r : Decoded) → Decodes X support correction r support′ correction′ → r ≡ keyOrNone X
-  result r d =
-      d .result
-      ∙ passed-answer X support correction
-      (passes-decode X support correction
-      (record { sheet = lent .sheet; support-long = lent .support-long; correction-long = lent .correction-long }))
+-- What a key comes to: so many growths at most, and the sheet's report.
+pub record KeyGiven (X : Sheet) (g : ℕ) (correction′ : List ℕ) : Type 0 where
+  pub limit : g ≤ 2 * edges (X .board)
+  pub report-is : keyLines (X .board) g correction′ ≡ sheetReport X
 
-  -- decoding refuses: the line of number 10
-  pub refused-report : (r : Decoded) (n : Refusal) → r ≡ Refused n → Decodes X support correction r support′ correction′
-      → refusalLine n ≡ sheetReport X
-  refused-report r n refused d = go (smallestOdd (X .board) (ones (X .syndrome))) refl
-    where
-      go : (o : Option ℕ) → smallestOdd (X .board) (ones (X .syndrome)) ≡ o → refusalLine n ≡ sheetReport X
-      go (some v) p =
-          let q : Refused n ≡ Refused (noneAt v) = sym refused ∙ result r d ∙ none-answer X v p in
-          let same : n ≡ noneAt v = cc in
-          ap refusalLine same ∙ sym (odd-report X v p)
-      go none p =
-          let q : Refused n ≡ Key (growths X) (size (X .board) (corrected X)) = sym refused ∙ result r d ∙ key-answer X p in
-          zero-one (cc)
+module _
+    {X : Sheet}
+    {support correction support′ correction′ out : List ℕ}
+    {r : Decoded}
+    (lent : Decodable X support correction out)
+    (d : Decodes X support correction r support′ correction′)
+  where
+    result : r ≡ keyOrNone X
+    result =
+        d .result
+        ∙ passed-answer X support correction
+        (passes-decode X support correction
+        (record { sheet = lent .sheet; support-long = lent .support-long; correction-long = lent .correction-long }))
 
-  -- decoding gives a key, and has written its correction
-  pub record KeyGiven (g : ℕ) : Type 0 where
-    pub is-growths : g ≡ growths X
-    pub limit : g ≤ 2 * edges (X .board)
-    pub correction-is : correction′ ≡ bytes (edges (X .board)) (corrected X)
-    pub report-is : keyLines (X .board) g correction′ ≡ sheetReport X
+    -- decoding refuses: the line of number 10
+    pub refused-report : {n : Refusal} → r ≡ Refused n → refusalLine n ≡ sheetReport X
+    refused-report {n} refused = go (smallestOdd (X .board) (ones (X .syndrome))) refl
+      where
+        go : (o : Option ℕ) → smallestOdd (X .board) (ones (X .syndrome)) ≡ o → refusalLine n ≡ sheetReport X
+        go (some v) p =
+            let q : Refused n ≡ Refused (noneAt v) = sym refused ∙ result ∙ none-answer X v p in
+            let same : n ≡ noneAt v = cc in
+            ap refusalLine same ∙ sym (odd-report X v p)
+        go none p =
+            let q : Refused n ≡ Key (growths X) (size (X .board) (corrected X)) = sym refused ∙ result ∙ key-answer X p in
+            zero-one (cc)
 
-  pub key-given : (r : Decoded) (g k : ℕ) → r ≡ Key g k → Decodes X support correction r support′ correction′ → KeyGiven g
-  key-given r g k key d = go (smallestOdd (X .board) (ones (X .syndrome))) refl
-    where
-      go : (o : Option ℕ) → smallestOdd (X .board) (ones (X .syndrome)) ≡ o → KeyGiven g
-      go (some v) p =
-          let q : Key g k ≡ Refused (noneAt v) = sym key ∙ result r d ∙ none-answer X v p in
-          zero-one (cc)
-      go none p =
-          let q : Key g k ≡ Key (growths X) (size (X .board) (corrected X)) = sym key ∙ result r d ∙ key-answer X p in
-          let same : g ≡ growths X = cc in
-          let is = d .correction-bytes ∙ ap (λ x. keyOr x (bytes (edges (X .board)) (corrected X)) correction) key in
-          record {
-            is-growths = same;
-            limit = rw same (growths-bound X);
-            correction-is = is;
-            report-is = ap₂ (keyLines (X .board)) same is ∙ key-lines X ∙ sym (even-report X p);
-          }
+    -- decoding gives a key, and has written its correction
+    pub key-given : {g k : ℕ} → r ≡ Key g k → KeyGiven X g correction′
+    key-given {g} {k} key = go (smallestOdd (X .board) (ones (X .syndrome))) refl
+      where
+        go : (o : Option ℕ) → smallestOdd (X .board) (ones (X .syndrome)) ≡ o → KeyGiven X g correction′
+        go (some v) p =
+            let q : Key g k ≡ Refused (noneAt v) = sym key ∙ result ∙ none-answer X v p in
+            zero-one (cc)
+        go none p =
+            let q : Key g k ≡ Key (growths X) (size (X .board) (corrected X)) = sym key ∙ result ∙ key-answer X p in
+            let same : g ≡ growths X = cc in
+            let is = d .correction-bytes ∙ ap (λ x. keyOr x (bytes (edges (X .board)) (corrected X)) correction) key in
+            record {
+              limit = rw same (growths-bound X);
+              report-is = ap₂ (keyLines (X .board)) same is ∙ key-lines X ∙ sym (even-report X p);
+            }

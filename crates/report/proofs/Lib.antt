@@ -1,3 +1,3 @@
-pub mod LineLaws
+pub mod ReportLineLaws
 pub mod KeyLaws
 pub mod Readings

@@ -12,7 +12,7 @@ use Rattle.model.specs.declared.answers.Reading.{Reading}
 use Rattle.model.specs.declared.answers.Reading.the-variants as reading
 use Rattle.model.specs.Board.{edges, vertexLimit, edgeLimit, ValidSheet}
 use Rattle.model.specs.Text.{Read, complete, refused, readText}
-use Rattle.model.specs.TextOutcomes.{textLimit, counts, Reads}
+use Rattle.model.specs.TextOutcomes.{textLimit, Buffers, counts, Reads}
 use Rattle.model.specs.Report.{refusalLine, sheetReport, readReport, reportOf}
 use Rattle.model.proofs.Contradiction.{zero-one}
 use Rattle.theory.proofs.RoundTrip.{read-written}
@@ -29,18 +29,20 @@ report-long : (text : List ℕ) → textLimit < length text → reportOf text �
 unfolding reportOf
 report-long text h = rw (lt-leb (length text) textLimit h)
 
-module _ (text e m s l : List ℕ) (r : Reading) (e′ m′ s′ l′ : List ℕ) (long : Sized e m s l) (w : Reads text e m s l r e′ m′ s′ l′) where
+module _ (text : List ℕ) (old : Buffers) (r : Reading) (new : Buffers) (long : Sized old) (w : Reads text old r new) where
+  -- the lines of a text within the limit decide what the call answers
+  by-text : length text ≤ textLimit → r ≡ counts (readText text)
+  by-text h = w .result ∙ ap counts (by-lines text old (sized-fits old long) h)
+
   pub refused-reads : (n : Refusal) → r ≡ reading.Refused n → refusalLine n ≡ reportOf text
   refused-reads n p = go (leb (length text) textLimit) refl
     where
       lines : length text ≤ textLimit → (o : Read) → readText text ≡ o → refusalLine n ≡ reportOf text
       lines h (complete X) q =
-          let c : reading.Refused n ≡ reading.Counts (X .board .vertices) (edges (X .board)) =
-          sym p ∙ w .result ∙ ap counts (by-lines text e m s l (sized-fits e m s l long) h ∙ q) in
+          let c : reading.Refused n ≡ reading.Counts (X .board .vertices) (edges (X .board)) = sym p ∙ by-text h ∙ ap counts q in
           zero-one (cc)
       lines h (refused k) q =
-          let c : reading.Refused n ≡ reading.Refused k =
-          sym p ∙ w .result ∙ ap counts (by-lines text e m s l (sized-fits e m s l long) h ∙ q) in
+          let c : reading.Refused n ≡ reading.Refused k = sym p ∙ by-text h ∙ ap counts q in
           let same : n ≡ k = cc in
           ap refusalLine same ∙ sym (report-short text h ∙ ap readReport q)
 
@@ -49,27 +51,27 @@ module _ (text e m s l : List ℕ) (r : Reading) (e′ m′ s′ l′ : List ℕ
       go false q =
           let h = leb-false (length text) textLimit q in
           let c : reading.Refused n ≡ reading.Refused TextLength =
-          sym p ∙ w .result ∙ sym (too-long text e m s l (sized-fits e m s l long) h .result) in
+          sym p ∙ w .result ∙ sym (too-long text old (sized-fits old long) h .result) in
           let same : n ≡ TextLength = cc in
           ap refusalLine same ∙ sym (report-long text h)
 
 -- Both counts came back: a valid sheet stands in front in the buffers, and its report is the text's.
-pub record SheetRead (text : List ℕ) (n k : ℕ) (e′ m′ s′ l′ : List ℕ) : Type 0 where
-  pub valid : ValidSheet (sheetIn n k e′ m′ s′ l′)
-  pub report-is : sheetReport (sheetIn n k e′ m′ s′ l′) ≡ reportOf text
+pub record SheetRead (text : List ℕ) (n k : ℕ) (new : Buffers) : Type 0 where
+  pub valid : ValidSheet (sheetIn n k new)
+  pub report-is : sheetReport (sheetIn n k new) ≡ reportOf text
   pub few-vertices : n ≤ vertexLimit
   pub few-edges : k ≤ edgeLimit
 
-pub counts-read : (text e m s l : List ℕ) (r : Reading) (e′ m′ s′ l′ : List ℕ) (n k : ℕ) → r ≡ reading.Counts n k
-    → Reads text e m s l r e′ m′ s′ l′ → SheetRead text n k e′ m′ s′ l′
-counts-read text e m s l r e′ m′ s′ l′ n k p w =
+pub counts-read : {text : List ℕ} {old new : Buffers} {r : Reading} {n k : ℕ} → r ≡ reading.Counts n k → Reads text old r new
+    → SheetRead text n k new
+counts-read {text} {new = new} {n = n} {k} p w =
     let reads = rw p at w in
     let left = read-leaves reads in
     let few = read-counts reads in
+    let lines = ap readText (sym (left .text-of)) ∙ read-written (sheetIn n k new) (left .valid) in
     record {
       valid = left .valid;
-      report-is =
-          sym (report-short text (left .within) ∙ ap readReport (ap readText (sym (left .text-of)) ∙ read-written (sheetIn n k e′ m′ s′ l′) (left .valid)));
+      report-is = sym (report-short text (left .within) ∙ ap readReport lines);
       few-vertices = few .0;
       few-edges = few .1;
     }

@@ -7,9 +7,10 @@ use model::answers::Decoded;
 use model::limits::EDGES;
 use text::printing::put_line;
 use text::printing::put_listed;
+ghost use Rattle.model.specs.Lent.{before, after, boardLent, sheetLent};
 ghost use Rattle.model.specs.Board.{boardOf, sheetOf, ValidSheet};
 ghost use Rattle.model.specs.Report.{sheetReport, InFront};
-ghost use Rattle.report.specs.Lines.{Room, Keyed, Decodable, keyLines};
+ghost use Rattle.report.specs.ReportLines.{Room, Keyed, Decodable, keyLines};
 
 const LETTER_G: u8 = 71;
 
@@ -26,7 +27,8 @@ fn put_key(
     out: &mut [u8],
 ) -> usize
     requires { ⌜ Keyed (boardOf vertices (now ends) (now marks)) growths (now correction) (now shown) (now out) ⌝ }
-    ensures { λ r. ⌜ InFront (keyLines (boardOf vertices (now (ends .entry)) (now (marks .entry))) growths (now (correction .entry))) (now (out .entry)) r (now (out .exit)) ⌝ }
+    ensures { λ r.
+        ⌜ InFront (keyLines (boardLent vertices ends marks) growths (before correction)) (before out) r (after out) ⌝ }
 {
     let correction_at = put_line(out, 0, LETTER_G, growths);
     let distance_at = put_listed(out, correction_at, LETTER_C, correction);
@@ -44,8 +46,9 @@ fn put_decoded(
     correction: &mut [u8],
     out: &mut [u8],
 ) -> usize
-    requires { ⌜ Decodable (sheetOf (boardOf vertices (now ends) (now marks)) (now syndrome) (now loss)) (now support) (now correction) (now out) ⌝ }
-    ensures { λ r. ⌜ InFront (sheetReport (sheetOf (boardOf vertices (now (ends .entry)) (now (marks .entry))) (now (syndrome .entry)) (now (loss .entry)))) (now (out .entry)) r (now (out .exit)) ⌝ }
+    requires { ⌜ Decodable (sheetOf (boardOf vertices (now ends) (now marks)) (now syndrome) (now loss))
+        (now support) (now correction) (now out) ⌝ }
+    ensures { λ r. ⌜ InFront (sheetReport (sheetLent vertices ends marks syndrome loss)) (before out) r (after out) ⌝ }
 {
     match decode(vertices, ends, marks, syndrome, loss, support, correction) {
         Decoded::Refused(n) => put_refusal(out, n),
@@ -71,7 +74,7 @@ pub(crate) fn put_sheet(
     out: &mut [u8],
 ) -> usize
     requires { ⌜ ValidSheet (sheetOf (boardOf vertices (now ends) (now marks)) (now syndrome) (now loss)) × Room (now out) ⌝ }
-    ensures { λ r. ⌜ InFront (sheetReport (sheetOf (boardOf vertices (now (ends .entry)) (now (marks .entry))) (now (syndrome .entry)) (now (loss .entry)))) (now (out .entry)) r (now (out .exit)) ⌝ }
+    ensures { λ r. ⌜ InFront (sheetReport (sheetLent vertices ends marks syndrome loss)) (before out) r (after out) ⌝ }
 {
     let edges = marks.len();
     let mut support = [0u8; EDGES];

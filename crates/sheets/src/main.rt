@@ -1,7 +1,7 @@
 // Decodes and judges the marked sheets and others, and prints a line for each.
 mod boards;
 mod decoding;
-mod line;
+mod output;
 mod verdicts;
 
 fn main() {

@@ -1,2 +1,3 @@
-pub mod Places
+pub mod CallPlaces
 pub mod Returned
+pub mod Exported

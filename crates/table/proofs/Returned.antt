@@ -22,10 +22,11 @@ use Rattle.model.specs.Winding.{crossings, together, size}
 use Rattle.model.specs.Decoding.{growths, corrected}
 use Rattle.model.specs.Verdict.{differs, judgedAt, judged}
 use Rattle.model.specs.Distance.{fewest}
-use Rattle.model.specs.Refusals.{placeOf, Test, sized, tested, sideRule, lengthRule, oddPartTest, decodeRefusal, verdictRefusal, distanceRefusal, torusRefusal}
+use Rattle.model.specs.Torus.{leastSide, largestSide}
+use Rattle.model.specs.Refusals.{placeOf, Test, sized, sideRule, lengthRule, oddPartTest, decodeRefusal, verdictRefusal, distanceRefusal, torusRefusal}
 use Rattle.model.specs.Outcomes.{answer, keyOrNone, decodeAnswer, judgedOrNone, verdictAnswer, distanceOf, distanceAnswer, torusAnswer}
 use Rattle.model.specs.Text.{Read, complete, refused, textOf, readText}
-use Rattle.model.specs.TextOutcomes.{textLimit, readRefusal, readOutcome, counts, writeRefusal, writeAnswer}
+use Rattle.model.specs.TextOutcomes.{Buffers, textLimit, readRefusal, readOutcome, counts, writeRefusal, writeAnswer}
 use Rattle.model.specs.Packing.{packedDecoded, packedVerdict, packedDistance, packedBuilt, packedReading, packedWritten, unpackedDecoded, verdictWith, unpackedVerdict, distanceWith, unpackedDistance, unpackedBuilt, unpackedReading, unpackedWritten}
 use Rattle.model.proofs.Packing.{unpacked-values, unpacked-refusal}
 use Rattle.model.proofs.Places.{PlaceBelow, answer-holds}
@@ -33,12 +34,12 @@ use Rattle.theory.proofs.AnswerBounds.{growths-bound, size-bound, differs-bound
 use Rattle.theory.proofs.ReadBounds.{LineBelow, line-below}
 use Rattle.theory.proofs.RoundTrip.{written-read}
 use Rattle.model.proofs.Xor.{and-right}
-use Rattle.board.proofs.Rows.{each-passes}
+use Rattle.board.proofs.Failures.{each-passes}
 use Rattle.board.proofs.Passing.{unless-passes}
 use Rattle.board.proofs.Calls.{decode-passes, verdict-passes, distance-passes}
 use Rattle.text.proofs.TextCalls.{read-within, write-passed}
 use Rattle.torus.proofs.Numbering.{square-limit}
-use Rattle.table.proofs.Places.{roomy, decode-small, verdict-small, odd-small, distance-small, torus-side, read-small, write-small}
+use Rattle.table.proofs.CallPlaces.{roomy, decode-small, verdict-small, odd-small, distance-small, torus-side, read-small, write-small}
 
 -- An answer comes back where the refusals of its test and what follows where it passes do.
 back : {A : Type 0} (pack : A → ℕ) (unpack : ℕ → A) {refused : Refusal → A} {else : A} (t : Test)
@@ -59,8 +60,8 @@ decode-key : (X : Sheet) → Valid (X .board) → unpackedDecoded (packedDecoded
 unfolding unpackedDecoded
 decode-key X v =
     unpacked-values decoded.Refused decoded.Key (growths X) (size (X .board) (corrected X))
-    (omega (arith, growths-bound X, v .edge-limit))
-    (omega (arith, size-bound (X .board) (corrected X), v .edge-limit))
+    (omega (arith, growths-bound X, v .inside .edge-limit))
+    (omega (arith, size-bound (X .board) (corrected X), v .inside .edge-limit))
 
 pub decode-returned : (X : Sheet) (support correction : List ℕ) →
     unpackedDecoded (packedDecoded (decodeAnswer X support correction)) ≡ decodeAnswer X support correction
@@ -69,7 +70,7 @@ decode-returned X support correction =
     back packedDecoded unpackedDecoded (decodeRefusal X support correction) decode-refusal (roomy (decode-small X support correction))
     (λ p.
     let v = decode-passes X support correction p .sheet .board in
-    back packedDecoded unpackedDecoded (oddPartTest X) decode-refusal (roomy (odd-small X (v .vertex-limit))) (λ q. decode-key X v))
+    back packedDecoded unpackedDecoded (oddPartTest X) decode-refusal (roomy (odd-small X (v .inside .vertex-limit))) (λ q. decode-key X v))
 
 -- The verdict: off with a vertex, same, or wound with 1 to 3
 
@@ -98,7 +99,7 @@ verdict-judged X H v = go (differs B (ones (X .syndrome)) H) refl
     go none p = marked (eqb x 0)
     go (some u) p =
         unpacked-values verdict.Refused verdictWith 1 u (omega arith)
-        (omega (arith, differs-bound B (ones (X .syndrome)) H u p, v .vertex-limit))
+        (omega (arith, differs-bound B (ones (X .syndrome)) H u p, v .inside .vertex-limit))
 
 pub verdict-returned : (X : Sheet) (handed : List ℕ) → unpackedVerdict (packedVerdict (verdictAnswer X handed)) ≡ verdictAnswer X handed
 unfolding verdictAnswer judgedOrNone
@@ -106,7 +107,7 @@ verdict-returned X handed =
     back packedVerdict unpackedVerdict (verdictRefusal X handed) verdict-refusal (roomy (verdict-small X handed))
     (λ p.
     let v = verdict-passes X handed p .sheet .board in
-    back packedVerdict unpackedVerdict (oddPartTest X) verdict-refusal (roomy (odd-small X (v .vertex-limit)))
+    back packedVerdict unpackedVerdict (oddPartTest X) verdict-refusal (roomy (odd-small X (v .inside .vertex-limit)))
     (λ q. verdict-judged X (ones handed) v))
 
 -- The distance: the fewest edges, or none
@@ -122,7 +123,7 @@ distance-fewest B v = go (fewest B) refl
     go : (o : Option ℕ) → fewest B ≡ o → unpackedDistance (packedDistance (distanceOf o)) ≡ distanceOf o
     go none p = unpacked-values distance.Refused distanceWith 0 0 (omega arith) (omega arith)
     go (some d) p =
-        unpacked-values distance.Refused distanceWith d 1 (omega (arith, fewest-bound B d p, v .edge-limit)) (omega arith)
+        unpacked-values distance.Refused distanceWith d 1 (omega (arith, fewest-bound B d p, v .inside .edge-limit)) (omega arith)
 
 pub distance-returned : (B : Board) (shown : List ℕ) → unpackedDistance (packedDistance (distanceAnswer B shown)) ≡ distanceAnswer B shown
 unfolding distanceAnswer
@@ -141,12 +142,12 @@ unfolding unpackedBuilt
 torus-vertices n h = unpacked-values built.Refused (λ vertices rest. built.Vertices vertices) n 0 h (omega arith)
 
 -- the side passes its test
-torus-passes : (side : ℕ) (ends marks : List ℕ) → torusRefusal side ends marks ≡ none → side ≤ 32
+torus-passes : (side : ℕ) (ends marks : List ℕ) → torusRefusal side ends marks ≡ none → side ≤ largestSide
 unfolding torusRefusal
 torus-passes side ends marks p =
     let fits = sized ends (4 * (side * side)) && sized marks (2 * (side * side)) in
-    let e = each-passes (tested (sideRule side) ∷ tested (lengthRule fits) ∷ []) p in
-    leb-true side 32 (and-right (leb 2 side) (leb side 32) (unless-passes (leb 2 side && leb side 32) (TorusSide side) (e .0)))
+    let e = each-passes (sideRule side ∷ lengthRule fits ∷ []) p in
+    leb-true side largestSide (and-right (leb leastSide side) (leb side largestSide) (unless-passes (leb leastSide side && leb side largestSide) (TorusSide side) (e .0)))
 
 pub torus-returned : (side : ℕ) (ends marks : List ℕ) → side < 2 ^ 32
     → unpackedBuilt (packedBuilt (torusAnswer side ends marks)) ≡ torusAnswer side ends marks
@@ -169,18 +170,18 @@ unfolding unpackedReading
 read-counts text (complete X) p h w =
     let v = written-read text X p .valid .board in
     unpacked-values reading.Refused reading.Counts (X .board .vertices) (edges (X .board))
-    (omega (arith, v .vertex-limit))
-    (omega (arith, v .edge-limit))
+    (omega (arith, v .inside .vertex-limit))
+    (omega (arith, v .inside .edge-limit))
 read-counts text (refused n) p h w = read-refusal n (omega arith)
 
-pub read-returned : (text ends marks syndrome loss : List ℕ) →
-    let r = counts (readOutcome text ends marks syndrome loss) in
+pub read-returned : (text : List ℕ) (old : Buffers) →
+    let r = counts (readOutcome text old) in
     unpackedReading (packedReading r) ≡ r
 unfolding readOutcome
-read-returned text ends marks syndrome loss =
-    answer-holds (λ o. unpackedReading (packedReading (counts o)) ≡ counts o) (readRefusal text ends marks syndrome loss) refused (readText text)
-    (λ n p. read-refusal n (roomy (read-small text ends marks syndrome loss) .below n p))
-    (λ p. read-counts text (readText text) refl (read-within text ends marks syndrome loss p) (line-below text))
+read-returned text old =
+    answer-holds (λ o. unpackedReading (packedReading (counts o)) ≡ counts o) (readRefusal text old) refused (readText text)
+    (λ n p. read-refusal n (roomy (read-small text old) .below n p))
+    (λ p. read-counts text (readText text) refl (read-within text old p) (line-below text))
 
 -- Writing: the byte count
 

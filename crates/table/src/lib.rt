@@ -3,22 +3,19 @@
 // verdict, `sound` says what may be relied on, of the same answer.
 mod packing;
 
-use crate::packing::pack_built;
-use crate::packing::pack_decoded;
-use crate::packing::pack_distance;
-use crate::packing::pack_reading;
-use crate::packing::pack_verdict;
-use crate::packing::pack_written;
+use crate::packing::pack;
+use crate::packing::pack_refusal;
+use model::answers::Built;
+use model::answers::Decoded;
+use model::answers::Distance;
+use model::answers::Reading;
+use model::answers::Verdict;
+use model::answers::Written;
 ghost use mathlib.Core.Path.{_≡_};
-ghost use mathlib.Core.Option.{none};
-ghost use Rattle.model.specs.Sums.{ones};
-ghost use Rattle.model.specs.Board.{boardOf, sheetOf};
-ghost use Rattle.model.specs.Decoding.{corrected};
-ghost use Rattle.model.specs.Demand3.{Demand3};
-ghost use Rattle.model.specs.Verdict.{SoundVerdict};
-ghost use Rattle.model.specs.Refusals.{decodeRefusal, verdictRefusal};
-ghost use Rattle.model.specs.Outcomes.{decodeAnswer, Decodes, verdictAnswer, Judges, distanceAnswer, Measures, torusAnswer, Builds};
-ghost use Rattle.model.specs.TextOutcomes.{counts, readOutcome, Reads, writeAnswer, Writes};
+ghost use Rattle.model.specs.Lent.{before, after, boardLent, sheetLent};
+ghost use Rattle.model.specs.Outcomes.{decodeAnswer, Decodes, DecodesSoundly, verdictAnswer, Judges, JudgesSoundly};
+ghost use Rattle.model.specs.Outcomes.{distanceAnswer, Measures, torusAnswer, Builds};
+ghost use Rattle.model.specs.TextOutcomes.{buffersOf, counts, readOutcome, Reads, writeAnswer, Writes};
 ghost use Rattle.model.specs.Packing.{packedDecoded, packedVerdict, packedDistance, packedBuilt, packedReading, packedWritten};
 ghost use Rattle.model.specs.Packing.{unpackedDecoded, unpackedVerdict, unpackedDistance, unpackedBuilt, unpackedReading, unpackedWritten};
 
@@ -33,15 +30,23 @@ pub extern "C" fn surface_decode(
     support: &mut [u8],
     correction: &mut [u8],
 ) -> u64
-    ensures number { λ r. ⌜ r ≡ packedDecoded (decodeAnswer (sheetOf (boardOf vertices (now (ends .entry)) (now (marks .entry))) (now (syndrome .entry)) (now (loss .entry))) (now (support .entry)) (now (correction .entry))) ⌝ }
-    ensures outcome { λ r. ⌜ Decodes (sheetOf (boardOf vertices (now (ends .entry)) (now (marks .entry))) (now (syndrome .entry)) (now (loss .entry))) (now (support .entry)) (now (correction .entry)) (unpackedDecoded r) (now (support .exit)) (now (correction .exit)) ⌝ }
-    ensures sound { λ r. ⌜ (decodeRefusal (sheetOf (boardOf vertices (now (ends .entry)) (now (marks .entry))) (now (syndrome .entry)) (now (loss .entry))) (now (support .entry)) (now (correction .entry)) ≡ none → Demand3 (boardOf vertices (now (ends .entry)) (now (marks .entry))) (ones (now (syndrome .entry))) (ones (now (loss .entry))) (unpackedDecoded r) (ones (now (correction .exit)))) ⌝ }
+    ensures number { λ r.
+        ⌜ r ≡ packedDecoded
+        (decodeAnswer (sheetLent vertices ends marks syndrome loss) (before support) (before correction)) ⌝ }
+    ensures outcome { λ r.
+        ⌜ Decodes (sheetLent vertices ends marks syndrome loss) (before support) (before correction)
+        (unpackedDecoded r) (after support) (after correction) ⌝ }
+    ensures sound { λ r.
+        ⌜ DecodesSoundly (sheetLent vertices ends marks syndrome loss) (before support) (before correction)
+        (unpackedDecoded r) (after correction) ⌝ }
 {
-    let decoded = decoder::decode(vertices, ends, marks, syndrome, loss, support, correction);
-    pack_decoded(decoded)
+    match decoder::decode(vertices, ends, marks, syndrome, loss, support, correction) {
+        Decoded::Key { growths, edges } => pack(growths, edges),
+        Decoded::Refused(n) => pack_refusal(n),
+    }
 }
 
-// The verdict on a handed-in set.
+// The verdict on a handed-in set: 1 off with the vertex, 2 same, 3 wound with the value.
 #[no_mangle]
 pub extern "C" fn surface_verdict(
     vertices: usize,
@@ -51,15 +56,22 @@ pub extern "C" fn surface_verdict(
     loss: &[u8],
     handed: &[u8],
 ) -> u64
-    ensures number { λ r. ⌜ r ≡ packedVerdict (verdictAnswer (sheetOf (boardOf vertices (now (ends .entry)) (now (marks .entry))) (now (syndrome .entry)) (now (loss .entry))) (now (handed .entry))) ⌝ }
-    ensures outcome { λ r. ⌜ Judges (sheetOf (boardOf vertices (now (ends .entry)) (now (marks .entry))) (now (syndrome .entry)) (now (loss .entry))) (now (handed .entry)) (unpackedVerdict r) ⌝ }
-    ensures sound { λ r. ⌜ (verdictRefusal (sheetOf (boardOf vertices (now (ends .entry)) (now (marks .entry))) (now (syndrome .entry)) (now (loss .entry))) (now (handed .entry)) ≡ none → SoundVerdict (boardOf vertices (now (ends .entry)) (now (marks .entry))) (ones (now (syndrome .entry))) (ones (now (loss .entry))) (corrected (sheetOf (boardOf vertices (now (ends .entry)) (now (marks .entry))) (now (syndrome .entry)) (now (loss .entry)))) (ones (now (handed .entry))) (unpackedVerdict r)) ⌝ }
+    ensures number { λ r.
+        ⌜ r ≡ packedVerdict (verdictAnswer (sheetLent vertices ends marks syndrome loss) (before handed)) ⌝ }
+    ensures outcome { λ r.
+        ⌜ Judges (sheetLent vertices ends marks syndrome loss) (before handed) (unpackedVerdict r) ⌝ }
+    ensures sound { λ r.
+        ⌜ JudgesSoundly (sheetLent vertices ends marks syndrome loss) (before handed) (unpackedVerdict r) ⌝ }
 {
-    let judged = verdict::verdict(vertices, ends, marks, syndrome, loss, handed);
-    pack_verdict(judged)
+    match verdict::verdict(vertices, ends, marks, syndrome, loss, handed) {
+        Verdict::Off(v) => pack(1, v.0 as usize),
+        Verdict::Same => pack(2, 0),
+        Verdict::Wound(x) => pack(3, x as usize),
+        Verdict::Refused(n) => pack_refusal(n),
+    }
 }
 
-// The distance of a board, with a shortest winding loop in `shown`.
+// The distance of a board, with a shortest winding loop in `shown`: the fewest edges and 1, or 0 and 0 where there is none.
 #[no_mangle]
 pub extern "C" fn surface_distance(
     vertices: usize,
@@ -67,24 +79,30 @@ pub extern "C" fn surface_distance(
     marks: &[u8],
     shown: &mut [u8],
 ) -> u64
-    ensures number { λ r. ⌜ r ≡ packedDistance (distanceAnswer (boardOf vertices (now (ends .entry)) (now (marks .entry))) (now (shown .entry))) ⌝ }
-    ensures outcome { λ r. ⌜ Measures (boardOf vertices (now (ends .entry)) (now (marks .entry))) (now (shown .entry)) (unpackedDistance r) (now (shown .exit)) ⌝ }
+    ensures number { λ r. ⌜ r ≡ packedDistance (distanceAnswer (boardLent vertices ends marks) (before shown)) ⌝ }
+    ensures outcome { λ r.
+        ⌜ Measures (boardLent vertices ends marks) (before shown) (unpackedDistance r) (after shown) ⌝ }
 {
-    let measured = distance::distance(vertices, ends, marks, shown);
-    pack_distance(measured)
+    match distance::distance(vertices, ends, marks, shown) {
+        Distance::Fewest(d) => pack(d, 1),
+        Distance::Nothing => pack(0, 0),
+        Distance::Refused(n) => pack_refusal(n),
+    }
 }
 
-// The torus of a side, with its ends and marks filled.
+// The torus of a side, with its ends and marks filled: the vertex count.
 #[no_mangle]
 pub extern "C" fn surface_torus(side: u32, ends: &mut [u16], marks: &mut [u8]) -> u64
-    ensures number { λ r. ⌜ r ≡ packedBuilt (torusAnswer side (now (ends .entry)) (now (marks .entry))) ⌝ }
-    ensures outcome { λ r. ⌜ Builds side (now (ends .entry)) (now (marks .entry)) (unpackedBuilt r) (now (ends .exit)) (now (marks .exit)) ⌝ }
+    ensures number { λ r. ⌜ r ≡ packedBuilt (torusAnswer side (before ends) (before marks)) ⌝ }
+    ensures outcome { λ r. ⌜ Builds side (before ends) (before marks) (unpackedBuilt r) (after ends) (after marks) ⌝ }
 {
-    let built = torus::torus(side as usize, ends, marks);
-    pack_built(built)
+    match torus::torus(side as usize, ends, marks) {
+        Built::Vertices(n) => pack(n, 0),
+        Built::Refused(n) => pack_refusal(n),
+    }
 }
 
-// The sheet that a text holds, with the entries of its counts filled.
+// The sheet that a text holds, with the entries of its counts filled: vertices and edges.
 #[no_mangle]
 pub extern "C" fn surface_read(
     text: &[u8],
@@ -93,14 +111,20 @@ pub extern "C" fn surface_read(
     syndrome: &mut [u8],
     loss: &mut [u8],
 ) -> u64
-    ensures number { λ r. ⌜ r ≡ packedReading (counts (readOutcome (now (text .entry)) (now (ends .entry)) (now (marks .entry)) (now (syndrome .entry)) (now (loss .entry)))) ⌝ }
-    ensures outcome { λ r. ⌜ Reads (now (text .entry)) (now (ends .entry)) (now (marks .entry)) (now (syndrome .entry)) (now (loss .entry)) (unpackedReading r) (now (ends .exit)) (now (marks .exit)) (now (syndrome .exit)) (now (loss .exit)) ⌝ }
+    ensures number { λ r.
+        ⌜ r ≡ packedReading
+        (counts (readOutcome (before text) (buffersOf (before ends) (before marks) (before syndrome) (before loss)))) ⌝ }
+    ensures outcome { λ r.
+        ⌜ Reads (before text) (buffersOf (before ends) (before marks) (before syndrome) (before loss))
+        (unpackedReading r) (buffersOf (after ends) (after marks) (after syndrome) (after loss)) ⌝ }
 {
-    let reading = text::reading::read(text, ends, marks, syndrome, loss);
-    pack_reading(reading)
+    match text::reading::read(text, ends, marks, syndrome, loss) {
+        Reading::Counts { vertices, edges } => pack(vertices, edges),
+        Reading::Refused(n) => pack_refusal(n),
+    }
 }
 
-// The text of a sheet, at the front of the lent buffer.
+// The text of a sheet, at the front of the lent buffer: its bytes.
 #[no_mangle]
 pub extern "C" fn surface_write(
     vertices: usize,
@@ -110,9 +134,13 @@ pub extern "C" fn surface_write(
     loss: &[u8],
     text: &mut [u8],
 ) -> u64
-    ensures number { λ r. ⌜ r ≡ packedWritten (writeAnswer (sheetOf (boardOf vertices (now (ends .entry)) (now (marks .entry))) (now (syndrome .entry)) (now (loss .entry))) (now (text .entry))) ⌝ }
-    ensures outcome { λ r. ⌜ Writes (sheetOf (boardOf vertices (now (ends .entry)) (now (marks .entry))) (now (syndrome .entry)) (now (loss .entry))) (now (text .entry)) (unpackedWritten r) (now (text .exit)) ⌝ }
+    ensures number { λ r.
+        ⌜ r ≡ packedWritten (writeAnswer (sheetLent vertices ends marks syndrome loss) (before text)) ⌝ }
+    ensures outcome { λ r.
+        ⌜ Writes (sheetLent vertices ends marks syndrome loss) (before text) (unpackedWritten r) (after text) ⌝ }
 {
-    let written = text::writing::write(vertices, ends, marks, syndrome, loss, text);
-    pack_written(written)
+    match text::writing::write(vertices, ends, marks, syndrome, loss, text) {
+        Written::Bytes(n) => pack(n, 0),
+        Written::Refused(n) => pack_refusal(n),
+    }
 }

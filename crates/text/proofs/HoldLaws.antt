@@ -12,8 +12,9 @@ use lib.Dec.{eqb, leb, ltb}
 use Rattle.model.proofs.Xor.{and-left, and-right}
 use Rattle.model.specs.Board.{Sheet, edges, vertexLimit, edgeLimit}
 use Rattle.model.specs.Text.{Line, V-line, E-line, S-line, X-line, edgeMayFollow, syndromeMayFollow, lossMayFollow, begun}
+use Rattle.model.specs.TextOutcomes.{Buffers, buffersOf}
 use Rattle.text.specs.Order.{edgeFits, mayStand}
-use Rattle.text.specs.Scratch.{Sized, Storable, endsWith, marksWith, syndromeWith, lossWith, edgesWith, Holds}
+use Rattle.text.specs.Scratch.{Sized, Storable, stored, edgesWith, Holds}
 use Rattle.text.proofs.ReadLaws.{withLine}
 
 -- zeros in front of zeros
@@ -23,15 +24,15 @@ take-zeros n l h zeros =
     ext-getD 0 (take n l) (replicate n 0) (long ∙ sym (length-replicate n 0))
     (λ i lt. getD-take n l i 0 (omega arith) ∙ zeros i ∙ sym (getD-replicate n i 0 0 (omega arith)))
 
-pub holds-begun : (n : ℕ) (E M S L : List ℕ) → Sized E M S L → ((v : ℕ) → getD S v 0 ≡ 0) → n ≤ vertexLimit → Holds (begun n) E M S L
-holds-begun n E M S L sized zeros h =
+pub holds-begun : (n : ℕ) (b : Buffers) → Sized b → ((v : ℕ) → getD (b .syndrome) v 0 ≡ 0) → n ≤ vertexLimit → Holds (begun n) b
+holds-begun n b sized zeros h =
     record {
       sized = sized;
       vertex-limit = h;
       edge-limit = omega arith;
       ends-held = refl;
       marks-held = refl;
-      syndrome-held = take-zeros n S (omega arith) zeros;
+      syndrome-held = take-zeros n (b .syndrome) (omega (arith, sized .syndrome-long)) zeros;
       loss-held = refl;
     }
 
@@ -79,55 +80,82 @@ two-more l i a b h =
     ∙ ap (λ xs. xs ++ (b ∷ [])) (one-more l i a (omega arith))
     ∙ append-assoc (take i l) (a ∷ []) (b ∷ [])
 
-module _ (X : Sheet) (E M S L : List ℕ) (w : Holds X E M S L) (last : Line) where
-  pub holds-line : (l : Line) → mayStand (X .board .vertices) (edges (X .board)) last l ≡ true → Holds (withLine X l) (endsWith (edges (X .board)) l E) (marksWith (edges (X .board)) l M) (syndromeWith l S) (lossWith (edges (X .board)) l L)
+module _ (X : Sheet) (b : Buffers) (w : Holds X b) (last : Line) where
+  pub holds-line : (l : Line) → mayStand (X .board .vertices) (edges (X .board)) last l ≡ true
+      → Holds (withLine X l) (stored (edges (X .board)) l b)
   unfolding withLine
   holds-line (V-line n) p = absurd (false≢true p)
-  holds-line (E-line a b k) p =
+  holds-line (E-line u v k) p =
       let m = edges (X .board) in
-      let fits = storable (X .board .vertices) m last (E-line a b k) (w .vertex-limit) (w .edge-limit) p in
+      let z = w .sized in
+      let fits = storable (X .board .vertices) m last (E-line u v k) (w .vertex-limit) (w .edge-limit) p in
       let more : length (X .board .marks ++ (k ∷ [])) ≡ m + 1 = length-append (X .board .marks) (k ∷ []) in
       record {
-        sized = record { ends-long = length-set (set E (2 * m) a) (2 * m + 1) b ∙ length-set E (2 * m) a ∙ w .sized .ends-long; marks-long = length-set M m k ∙ w .sized .marks-long; syndrome-long = w .sized .syndrome-long; loss-long = length-set L m 0 ∙ w .sized .loss-long };
+        sized =
+            record {
+              ends-long = length-set (set (b .ends) (2 * m) u) (2 * m + 1) v ∙ length-set (b .ends) (2 * m) u ∙ z .ends-long;
+              marks-long = length-set (b .marks) m k ∙ z .marks-long;
+              syndrome-long = z .syndrome-long;
+              loss-long = length-set (b .loss) m 0 ∙ z .loss-long;
+            };
         vertex-limit = w .vertex-limit;
         edge-limit = rw more (omega arith);
         ends-held =
-            ap (λ n. take n (set (set E (2 * m) a) (2 * m + 1) b)) {x = 2 * length (X .board .marks ++ (k ∷ []))} {y = 2 * m + 2} (omega arith)
-            ∙ two-more E (2 * m) a b (omega arith)
-            ∙ ap (λ l. l ++ (a ∷ b ∷ [])) (w .ends-held);
-        marks-held = ap (λ n. take n (set M m k)) more ∙ one-more M m k (omega arith) ∙ ap (λ l. l ++ (k ∷ [])) (w .marks-held);
+            ap (λ n. take n (set (set (b .ends) (2 * m) u) (2 * m + 1) v))
+            {x = 2 * length (X .board .marks ++ (k ∷ []))} {y = 2 * m + 2} (omega arith)
+            ∙ two-more (b .ends) (2 * m) u v (omega arith)
+            ∙ ap (λ l. l ++ (u ∷ v ∷ [])) (w .ends-held);
+        marks-held =
+            ap (λ n. take n (set (b .marks) m k)) more ∙ one-more (b .marks) m k (omega arith) ∙ ap (λ l. l ++ (k ∷ [])) (w .marks-held);
         syndrome-held = w .syndrome-held;
-        loss-held = ap (λ n. take n (set L m 0)) more ∙ one-more L m 0 (omega arith) ∙ ap (λ l. l ++ (0 ∷ [])) (w .loss-held);
+        loss-held =
+            ap (λ n. take n (set (b .loss) m 0)) more ∙ one-more (b .loss) m 0 (omega arith) ∙ ap (λ l. l ++ (0 ∷ [])) (w .loss-held);
       }
   holds-line (S-line v) p =
-      let lv = ltb-true v (X .board .vertices) (and-right (syndromeMayFollow last v) (ltb v (X .board .vertices)) p) in
+      let n = X .board .vertices in
+      let z = w .sized in
+      let lv = ltb-true v n (and-right (syndromeMayFollow last v) (ltb v n) p) in
       record {
-        sized = record { ends-long = w .sized .ends-long; marks-long = w .sized .marks-long; syndrome-long = length-set S v 1 ∙ w .sized .syndrome-long; loss-long = w .sized .loss-long };
+        sized =
+            record {
+              ends-long = z .ends-long;
+              marks-long = z .marks-long;
+              syndrome-long = length-set (b .syndrome) v 1 ∙ z .syndrome-long;
+              loss-long = z .loss-long;
+            };
         vertex-limit = w .vertex-limit;
         edge-limit = w .edge-limit;
         ends-held = w .ends-held;
         marks-held = w .marks-held;
-        syndrome-held = take-set-lt (X .board .vertices) S v 1 lv ∙ ap (λ s. set s v 1) (w .syndrome-held);
+        syndrome-held = take-set-lt n (b .syndrome) v 1 lv ∙ ap (λ s. set s v 1) (w .syndrome-held);
         loss-held = w .loss-held;
       }
   holds-line (X-line e) p =
-      let le = ltb-true e (edges (X .board)) (and-right (lossMayFollow last e) (ltb e (edges (X .board))) p) in
+      let m = edges (X .board) in
+      let z = w .sized in
+      let le = ltb-true e m (and-right (lossMayFollow last e) (ltb e m) p) in
       record {
-        sized = record { ends-long = w .sized .ends-long; marks-long = w .sized .marks-long; syndrome-long = w .sized .syndrome-long; loss-long = length-set L e 1 ∙ w .sized .loss-long };
+        sized =
+            record {
+              ends-long = z .ends-long;
+              marks-long = z .marks-long;
+              syndrome-long = z .syndrome-long;
+              loss-long = length-set (b .loss) e 1 ∙ z .loss-long;
+            };
         vertex-limit = w .vertex-limit;
         edge-limit = w .edge-limit;
         ends-held = w .ends-held;
         marks-held = w .marks-held;
         syndrome-held = w .syndrome-held;
-        loss-held = take-set-lt (edges (X .board)) L e 1 le ∙ ap (λ s. set s e 1) (w .loss-held);
+        loss-held = take-set-lt m (b .loss) e 1 le ∙ ap (λ s. set s e 1) (w .loss-held);
       }
 
 -- arrays of zeros have room for every sheet
-pub zeros-sized : Sized (replicate 8192 0) (replicate 4096 0) (replicate 1024 0) (replicate 4096 0)
+pub zeros-sized : Sized (buffersOf (replicate (2 * edgeLimit) 0) (replicate edgeLimit 0) (replicate vertexLimit 0) (replicate edgeLimit 0))
 zeros-sized =
     record {
-      ends-long = length-replicate {A = ℕ} 8192 0;
-      marks-long = length-replicate {A = ℕ} 4096 0;
-      syndrome-long = length-replicate {A = ℕ} 1024 0;
-      loss-long = length-replicate {A = ℕ} 4096 0;
+      ends-long = length-replicate {A = ℕ} (2 * edgeLimit) 0;
+      marks-long = length-replicate {A = ℕ} edgeLimit 0;
+      syndrome-long = length-replicate {A = ℕ} vertexLimit 0;
+      loss-long = length-replicate {A = ℕ} edgeLimit 0;
     }

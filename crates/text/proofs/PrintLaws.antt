@@ -1,5 +1,5 @@
 -- The text of a sheet, line by line: the bytes that the writer puts, and how many they are at most. Assumes nothing.
-use Prim.Native.Nat.{ℕ, zero, suc, _*_, _≤_}
+use Prim.Native.Nat.{ℕ, zero, suc, _+_, _*_, _≤_}
 use mathlib.Core.Path.{_≡_, refl, sym, ap, ap₂, _∙_}
 use mathlib.Core.Bool.{Bool, true, false, cond}
 use mathlib.Core.List.{List, [], _∷_, _++_, map, append-assoc, append-nil, map-append}
@@ -7,7 +7,7 @@ use native.Mathlib.Nat.{le-refl}
 use native.Mathlib.Omega.{arith}
 use lib.ListN.{length, length-append}
 use Rattle.model.specs.Sums.{Set, values, ones, members}
-use Rattle.model.specs.Board.{Sheet, Board, Valid, ValidSheet, edges, firstEnd, secondEnd, mark}
+use Rattle.model.specs.Board.{Sheet, Board, Valid, ValidSheet, edges, firstEnd, secondEnd, mark, vertexLimit, edgeLimit}
 use Rattle.model.specs.Text.{Line, V-line, E-line, S-line, X-line, newline, letterV, letterE, letterS, letterX, tab, decimal, fieldsOf, bytesOf, printed, edgeLine, linesOf, textOf}
 use Rattle.model.proofs.ListLaws.{values-last}
 use Rattle.text.specs.Printing.{numberBytes, edgeBytes, placeBytes, edgesBytes, listedBytes, sheetBytes}
@@ -40,7 +40,8 @@ e-bytes : (a b m : ℕ) → printed (E-line a b m ∷ []) ≡ edgeBytes a b m
 unfolding printed bytesOf fieldsOf
 e-bytes a b m =
     ap (λ l. letterE ∷ tab ∷ (l ++ (newline ∷ [])))
-    (ap (λ l. decimal a ++ (tab ∷ (decimal b ++ (tab ∷ l)))) (append-nil (decimal m)) ∙ sym (append-assoc (decimal a) (tab ∷ decimal b) (tab ∷ decimal m)))
+    (ap (λ l. decimal a ++ (tab ∷ (decimal b ++ (tab ∷ l)))) (append-nil (decimal m))
+    ∙ sym (append-assoc (decimal a) (tab ∷ decimal b) (tab ∷ decimal m)))
 
 edges-printed : (B : Board) (k : ℕ) → printed (values k (edgeLine B)) ≡ edgesBytes (B .ends) (B .marks) k
 unfolding edgesBytes printed values
@@ -49,7 +50,8 @@ edges-printed B (suc k) =
     ap printed (values-last k (edgeLine B)) ∙ printed-append (values k (edgeLine B)) (edgeLine B k ∷ [])
     ∙ ap₂ _++_ (edges-printed B k) (e-bytes _ _ _)
 
-listed-printed : (line : ℕ → Line) (letter : ℕ) → ((i : ℕ) → printed (line i ∷ []) ≡ numberBytes letter i) → (D : Set) (k : ℕ) → printed (map line (members k D)) ≡ listedBytes letter D k
+listed-printed : (line : ℕ → Line) (letter : ℕ) → ((i : ℕ) → printed (line i ∷ []) ≡ numberBytes letter i) → (D : Set) (k : ℕ)
+    → printed (map line (members k D)) ≡ listedBytes letter D k
 unfolding listedBytes members printed
 listed-printed line letter one D zero = refl
 listed-printed line letter one D (suc k) =
@@ -73,7 +75,12 @@ text-bytes X syndrome loss =
     sym
     (printed-append (v ++ e ++ s) x
     ∙ ap (λ l. l ++ printed x) (printed-append (v ++ e) s ∙ ap (λ l. l ++ printed s) (printed-append v e))
-    ∙ rw (syndrome, loss) (ap₂ _++_ (ap₂ _++_ (ap₂ _++_ (v-bytes (B .vertices)) (edges-printed B (edges B))) (listed-printed S-line letterS s-bytes (ones (X .syndrome)) (B .vertices))) (listed-printed X-line letterX x-bytes (ones (X .loss)) (edges B))))
+    ∙ rw (syndrome, loss)
+    (ap₂ _++_
+    (ap₂ _++_
+    (ap₂ _++_ (v-bytes (B .vertices)) (edges-printed B (edges B)))
+    (listed-printed S-line letterS s-bytes (ones (X .syndrome)) (B .vertices)))
+    (listed-printed X-line letterX x-bytes (ones (X .loss)) (edges B))))
 
 -- No text is longer than this: 7 bytes for `V`, 14 for an edge, 7 for a syndrome vertex and for a lost edge.
 edges-short : (B : Board) → Valid B → (k : ℕ) → k ≤ edges B → length (edgesBytes (B .ends) (B .marks) k) ≤ 14 * k
@@ -81,14 +88,14 @@ unfolding edgesBytes
 edges-short B w zero h = omega arith
 edges-short B w (suc k) h =
     let before = edges-short B w k (omega arith) in
-    let first = digits 3 .few (firstEnd B k) (omega (arith, w .first-in-range k h, w .vertex-limit)) in
-    let second = digits 3 .few (secondEnd B k) (omega (arith, w .second-in-range k h, w .vertex-limit)) in
+    let first = digits 3 .few (firstEnd B k) (omega (arith, w .inside .first-in-range k h, w .inside .vertex-limit)) in
+    let second = digits 3 .few (secondEnd B k) (omega (arith, w .inside .second-in-range k h, w .inside .vertex-limit)) in
     let third = digits 0 .few (mark B k) (omega (arith, w .mark-in-range k h)) in
     let line = length-edge (firstEnd B k) (secondEnd B k) (mark B k) in
     let both = length-append (edgesBytes (B .ends) (B .marks) k) (edgeBytes (firstEnd B k) (secondEnd B k) (mark B k)) in
     omega arith
 
-pub listed-short : (letter : ℕ) (D : Set) (k : ℕ) → k ≤ 4096 → length (listedBytes letter D k) ≤ 7 * k
+pub listed-short : (letter : ℕ) (D : Set) (k : ℕ) → k ≤ edgeLimit → length (listedBytes letter D k) ≤ 7 * k
 unfolding listedBytes
 listed-short letter D zero h = omega arith
 listed-short letter D (suc k) h =
@@ -104,12 +111,12 @@ listed-short letter D (suc k) h =
         omega arith
     go false = omega arith
 
-pub text-short : (X : Sheet) → ValidSheet X → length (sheetBytes X) ≤ 93191
+pub text-short : (X : Sheet) → ValidSheet X → length (sheetBytes X) ≤ 7 + 14 * edgeLimit + 7 * vertexLimit + 7 * edgeLimit
 text-short X w =
     let B = X .board in
     let v = length-number letterV (B .vertices) in
-    let digits = digits 3 .few (B .vertices) (omega (arith, w .board .vertex-limit)) in
+    let digits = digits 3 .few (B .vertices) (omega (arith, w .board .inside .vertex-limit)) in
     let e = edges-short B (w .board) (edges B) (le-refl _) in
-    let s = listed-short letterS (ones (X .syndrome)) (length (X .syndrome)) (omega (arith, w .syndrome .count, w .board .vertex-limit)) in
-    let x = listed-short letterX (ones (X .loss)) (length (X .loss)) (omega (arith, w .loss .count, w .board .edge-limit)) in
-    omega (arith, length-sheet X, w .board .vertex-limit, w .board .edge-limit, w .syndrome .count, w .loss .count)
+    let s = listed-short letterS (ones (X .syndrome)) (length (X .syndrome)) (omega (arith, w .syndrome .count, w .board .inside .vertex-limit)) in
+    let x = listed-short letterX (ones (X .loss)) (length (X .loss)) (omega (arith, w .loss .count, w .board .inside .edge-limit)) in
+    omega (arith, length-sheet X, w .board .inside .vertex-limit, w .board .inside .edge-limit, w .syndrome .count, w .loss .count)

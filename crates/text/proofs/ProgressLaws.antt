@@ -10,7 +10,7 @@ use Rattle.model.specs.declared.refusal.Refusal.the-variants.{MalformedLine}
 use Rattle.model.specs.declared.answers.Reading.the-variants as reading
 use Rattle.model.specs.Board.{Sheet, edges, vertexLimit, edgeLimit}
 use Rattle.model.specs.Text.{newline, partedBy, refused, firstLine, begun, readOn, readText}
-use Rattle.model.specs.TextOutcomes.{counts}
+use Rattle.model.specs.TextOutcomes.{Buffers, counts}
 use Rattle.theory.proofs.TextReading.{first-vertices}
 use Rattle.text.specs.declared.line.Line.{Line}
 use Rattle.text.specs.Order.{meant, mayStand}
@@ -19,31 +19,33 @@ use Rattle.text.proofs.ReadLaws.{LineIs, NoLine, withLine, goes-on, out
 use Rattle.text.proofs.HoldLaws.{holds-begun, holds-line, edges-with, vertices-with}
 
 -- the sheet so far, which the arrays hold, and the line that comes next
-pub record Progress (t E M S L : List ℕ) (n at k : ℕ) (last : Line) (m : ℕ) : Type 0 where
+pub record Progress (t : List ℕ) (b : Buffers) (n at k : ℕ) (last : Line) (m : ℕ) : Type 0 where
   pub sheet : Sheet
   pub reading : readText t ≡ readOn sheet (meant last) k (partedBy newline (drop at t))
   pub vertices-are : sheet .board .vertices ≡ n
   pub edges-are : edges (sheet .board) ≡ m
-  pub holds : Holds sheet E M S L
+  pub holds : Holds sheet b
 
--- a refused text says nothing of the arrays
-pub into-refused : (t E M S L : List ℕ) (r : Refusal) → readText t ≡ refused r → ReadsInto t (reading.Refused r) E M S L
-into-refused t E M S L r p = record { result = sym (ap counts p); held = rw p tt }
+-- a refused text says nothing of what the arrays hold
+pub into-refused : (t : List ℕ) (b : Buffers) (r : Refusal) → readText t ≡ refused r → Sized b → ReadsInto t (reading.Refused r) b
+into-refused t b r p sized = record { result = sym (ap counts p); sized = sized; held = rw p tt }
 
 -- the first line, which is taken
-pub begins : (t E M S L : List ℕ) (l : Line) (next k′ n : ℕ) → LineIs t 0 1 l next k′ → firstLine (meant l) ≡ some n → Sized E M S L → ((v : ℕ) → getD S v 0 ≡ 0) → Progress t E M S L n next k′ l 0
-begins t E M S L l next k′ n is first sized zeros =
+pub begins : (t : List ℕ) (b : Buffers) (l : Line) (next k′ n : ℕ) → LineIs t 0 1 l next k′ → firstLine (meant l) ≡ some n → Sized b
+    → ((v : ℕ) → getD (b .syndrome) v 0 ≡ 0) → Progress t b n next k′ l 0
+begins t b l next k′ n is first sized zeros =
     record {
       sheet = begun n;
       reading = first-is t l next k′ n is first;
       vertices-are = refl;
       edges-are = refl;
-      holds = holds-begun n E M S L sized zeros (first-vertices (meant l) n first .vertex-limit);
+      holds = holds-begun n b sized zeros (first-vertices (meant l) n first .vertex-limit);
     }
 
-module _ (t E M S L : List ℕ) (n at k : ℕ) (last : Line) (m : ℕ) (w : Progress t E M S L n at k last m) where
+module _ (t : List ℕ) (b : Buffers) (n at k : ℕ) (last : Line) (m : ℕ) (w : Progress t b n at k last m) where
   -- the rule about the next line, over the sheet's own counts
-  over-sheet : (l : Line) → mayStand (w .sheet .board .vertices) (edges (w .sheet .board)) (meant last) (meant l) ≡ mayStand n m (meant last) (meant l)
+  over-sheet : (l : Line)
+      → mayStand (w .sheet .board .vertices) (edges (w .sheet .board)) (meant last) (meant l) ≡ mayStand n m (meant last) (meant l)
   over-sheet l = ap₂ (λ x y. mayStand x y (meant last) (meant l)) (w .vertices-are) (w .edges-are)
 
   pub within : (n ≤ vertexLimit) × (m ≤ edgeLimit)
@@ -52,11 +54,12 @@ module _ (t E M S L : List ℕ) (n at k : ℕ) (last : Line) (m : ℕ) (w : Prog
   pub ends-malformed : at < length t → NoLine t at → readText t ≡ refused (MalformedLine k)
   ends-malformed h none = w .reading ∙ malformed (w .sheet) (meant last) k t at (w .holds .vertex-limit) (w .holds .edge-limit) h none
 
-  pub finished : length t ≤ at → ReadsInto t (reading.Counts n m) E M S L
+  pub finished : length t ≤ at → ReadsInto t (reading.Counts n m) b
   finished h =
       let is = w .reading ∙ finishes (w .sheet) (meant last) k t at h in
       record {
         result = ap₂ reading.Counts (sym (w .vertices-are)) (sym (w .edges-are)) ∙ sym (ap counts is);
+        sized = w .holds .sized;
         held = rw is (w .holds);
       }
 
@@ -64,8 +67,9 @@ module _ (t E M S L : List ℕ) (n at k : ℕ) (last : Line) (m : ℕ) (w : Prog
     pub ends-out-of-place : mayStand n m (meant last) (meant l) ≡ false → readText t ≡ refused (MalformedLine k)
     ends-out-of-place p = w .reading ∙ out-of-place (w .sheet) (meant last) k t at l next k′ is (over-sheet l ∙ p)
 
-    pub goes-further : (m′ : ℕ) (E′ M′ S′ L′ : List ℕ) → mayStand n m (meant last) (meant l) ≡ true → Stores m (meant l) E M S L m′ E′ M′ S′ L′ → Progress t E′ M′ S′ L′ n next k′ l m′
-    goes-further m′ E′ M′ S′ L′ p s =
+    pub goes-further : (m′ : ℕ) (b′ : Buffers) → mayStand n m (meant last) (meant l) ≡ true → Stores m (meant l) b m′ b′
+        → Progress t b′ n next k′ l m′
+    goes-further m′ b′ p s =
         let X = w .sheet in
         let q = over-sheet l ∙ p in
         record {
@@ -73,5 +77,5 @@ module _ (t E M S L : List ℕ) (n at k : ℕ) (last : Line) (m : ℕ) (w : Prog
           reading = w .reading ∙ goes-on X (meant last) k t at l next k′ is q;
           vertices-are = vertices-with X (meant l) ∙ w .vertices-are;
           edges-are = edges-with X (meant l) ∙ ap (λ i. edgesWith i (meant l)) (w .edges-are) ∙ sym (s .count);
-          holds = rw (s .ends-are, s .marks-are, s .syndrome-is, s .loss-is, ← (w .edges-are)) (holds-line X E M S L (w .holds) (meant last) (meant l) q);
+          holds = rw (s .arrays, ← (w .edges-are)) (holds-line X b (w .holds) (meant last) (meant l) q);
         }

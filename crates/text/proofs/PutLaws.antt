@@ -47,7 +47,8 @@ pub put-none : (l : List ℕ) (i : ℕ) → Puts [] l i i l
 put-none l i = record { position = sym (add-zero i); put = refl }
 
 -- the lines of one edge more, and of one place more
-pub edges-more : (ends marks : List ℕ) (e : ℕ) → edgesBytes ends marks (e + 1) ≡ edgesBytes ends marks e ++ edgeBytes (getD ends (2 * e) 0) (getD ends (2 * e + 1) 0) (getD marks e 0)
+pub edges-more : (ends marks : List ℕ) (e : ℕ)
+    → edgesBytes ends marks (e + 1) ≡ edgesBytes ends marks e ++ edgeBytes (getD ends (2 * e) 0) (getD ends (2 * e + 1) 0) (getD marks e 0)
 unfolding edgesBytes
 edges-more ends marks e = rw (add-one e)
 
@@ -65,7 +66,8 @@ rises f up i (suc k) h = ⊎-elim (λ e. rw e (le-refl _)) (λ l. further (rises
 
 -- there is room for the line of edge e, and of place i, in front of those that follow
 module _ (ends marks : List ℕ) (k : ℕ) where
-  pub edges-fit : (e : ℕ) → e < k → length (edgesBytes ends marks e) + length (edgeBytes (getD ends (2 * e) 0) (getD ends (2 * e + 1) 0) (getD marks e 0)) ≤ length (edgesBytes ends marks k)
+  pub edges-fit : (e : ℕ) → e < k
+      → length (edgesBytes ends marks e) + length (edgeBytes (getD ends (2 * e) 0) (getD ends (2 * e + 1) 0) (getD marks e 0)) ≤ length (edgesBytes ends marks k)
   edges-fit e h =
       let more = ap length (edges-more ends marks e) in
       let both = length-append (edgesBytes ends marks e) (edgeBytes (getD ends (2 * e) 0) (getD ends (2 * e + 1) 0) (getD marks e 0)) in
@@ -76,7 +78,8 @@ module _ (ends marks : List ℕ) (k : ℕ) where
       up i = rw (edges-more ends marks i, length-append) (omega arith)
 
 module _ (letter : ℕ) (D : Set) (k : ℕ) where
-  pub listed-fit : (i : ℕ) → i < k → length (listedBytes letter D i) + length (placeBytes letter i (D i)) ≤ length (listedBytes letter D k)
+  pub listed-fit : (i : ℕ) → i < k
+      → length (listedBytes letter D i) + length (placeBytes letter i (D i)) ≤ length (listedBytes letter D k)
   listed-fit i h =
       let more = ap length (listed-more letter D i) in
       let both = length-append (listedBytes letter D i) (placeBytes letter i (D i)) in
@@ -86,7 +89,12 @@ module _ (letter : ℕ) (D : Set) (k : ℕ) where
       up : (j : ℕ) → length (listedBytes letter D j) ≤ length (listedBytes letter D (j + 1))
       up j = rw (listed-more letter D j, length-append) (omega arith)
 
-pub length-sheet : (X : Sheet) → length (sheetBytes X) ≡ length (numberBytes letterV (X .board .vertices)) + length (edgesBytes (X .board .ends) (X .board .marks) (edges (X .board))) + length (listedBytes letterS (ones (X .syndrome)) (length (X .syndrome))) + length (listedBytes letterX (ones (X .loss)) (length (X .loss)))
+pub length-sheet : (X : Sheet)
+    → length (sheetBytes X)
+    ≡ length (numberBytes letterV (X .board .vertices))
+    + length (edgesBytes (X .board .ends) (X .board .marks) (edges (X .board)))
+    + length (listedBytes letterS (ones (X .syndrome)) (length (X .syndrome)))
+    + length (listedBytes letterX (ones (X .loss)) (length (X .loss)))
 length-sheet X =
     let B = X .board in
     let v = numberBytes letterV (B .vertices) in

@@ -17,7 +17,7 @@ use Rattle.model.specs.Text.{V-line, E-line, S-line, X-line, newline, numbersOf
 use Rattle.text.specs.declared.line.Line.{Line}
 use Rattle.text.specs.declared.line.LineRead.the-variants as lineread
 use Rattle.text.specs.Pieces.{upTo}
-use Rattle.text.specs.Lines.{asLine, asParsed, small, lineParsed, asRead, lineReadAt}
+use Rattle.text.specs.LineReadings.{asLine, asParsed, small, lineParsed, asRead, lineReadAt}
 use Rattle.text.specs.Order.{meant, edgeFits, mayStand}
 use Rattle.text.proofs.PieceLaws.{parted, pieces-at, one-piece-at}
 use Rattle.theory.proofs.TextReading.{first-vertices}
@@ -35,8 +35,10 @@ pub record LineIs (t : List ℕ) (at k : ℕ) (l : Line) (next k′ : ℕ) : Typ
 -- a line that doesn't read: none with its newline, one that is no line, or one with too large a number
 pub data NoLine (t : List ℕ) (at : ℕ) : Type 0 where
   unended : (bytes : List ℕ) → partedBy newline (drop at t) ≡ bytes ∷ [] → length t ≤ at + length bytes → NoLine t at
-  unread : (bytes next : List ℕ) (rest : List (List ℕ)) → partedBy newline (drop at t) ≡ bytes ∷ next ∷ rest → lineFrom bytes ≡ none → NoLine t at
-  large : (bytes next : List ℕ) (rest : List (List ℕ)) (l : text.Line) → partedBy newline (drop at t) ≡ bytes ∷ next ∷ rest → lineFrom bytes ≡ some l → small (numbersOf l) ≡ false → NoLine t at
+  unread : (bytes next : List ℕ) (rest : List (List ℕ)) → partedBy newline (drop at t) ≡ bytes ∷ next ∷ rest → lineFrom bytes ≡ none
+      → NoLine t at
+  large : (bytes next : List ℕ) (rest : List (List ℕ)) (l : text.Line) → partedBy newline (drop at t) ≡ bytes ∷ next ∷ rest
+      → lineFrom bytes ≡ some l → small (numbersOf l) ≡ false → NoLine t at
 
 meant-asLine : (l : text.Line) → meant (asLine l) ≡ l
 meant-asLine (V-line n) = refl
@@ -56,7 +58,8 @@ module _ (t : List ℕ) (at k : ℕ) where
       go true p = some-where (ltb-true ends (length t) p)
       go false p = nowhere (ltb-false ends (length t) p)
 
-  pub line-is : (l : Line) (next k′ : ℕ) → lineReadAt at k (partedBy newline (drop at t)) ≡ lineread.Line l next k′ → LineIs t at k l next k′
+  pub line-is : (l : Line) (next k′ : ℕ) → lineReadAt at k (partedBy newline (drop at t)) ≡ lineread.Line l next k′
+      → LineIs t at k l next k′
   unfolding lineReadAt ends
   line-is l next k′ p =
       newline?
@@ -68,11 +71,14 @@ module _ (t : List ℕ) (at k : ℕ) where
       let q = one-piece-at newline t at ends refl h in
       zero-one (cc))
     where
-      found : ends < length t → partedBy newline (drop at t) ≡ upTo newline (drop at t) ∷ partedBy newline (drop (ends + 1) t) → (o : Option text.Line) → lineFrom (upTo newline (drop at t)) ≡ o → asRead (lineParsed o) (ends + 1) (k + 1) ≡ lineread.Line l next k′ → LineIs t at k l next k′
+      found : ends < length t → partedBy newline (drop at t) ≡ upTo newline (drop at t) ∷ partedBy newline (drop (ends + 1) t)
+          → (o : Option text.Line) → lineFrom (upTo newline (drop at t)) ≡ o
+          → asRead (lineParsed o) (ends + 1) (k + 1) ≡ lineread.Line l next k′ → LineIs t at k l next k′
       found h q none r p = zero-one (cc)
       found h q (some line) r p = kept (small (numbersOf line)) p
         where
-          kept : (b : Bool) → asRead (asParsed (cond b (some line) none)) (ends + 1) (k + 1) ≡ lineread.Line l next k′ → LineIs t at k l next k′
+          kept : (b : Bool) → asRead (asParsed (cond b (some line) none)) (ends + 1) (k + 1) ≡ lineread.Line l next k′
+              → LineIs t at k l next k′
           kept true p =
               let is : asLine line ≡ l = cc in
               let there : ends + 1 ≡ next = cc in
@@ -93,15 +99,19 @@ module _ (t : List ℕ) (at k : ℕ) where
       newline?
       (λ h.
       let w = parted newline (drop (ends + 1) t) in
-      let q : partedBy newline (drop at t) ≡ upTo newline (drop at t) ∷ upTo newline (drop (ends + 1) t) ∷ w .others = pieces-at newline t at ends refl h ∙ ap (λ x. upTo newline (drop at t) ∷ x) (w .are) in
+      let q : partedBy newline (drop at t) ≡ upTo newline (drop at t) ∷ upTo newline (drop (ends + 1) t) ∷ w .others =
+      pieces-at newline t at ends refl h ∙ ap (λ x. upTo newline (drop at t) ∷ x) (w .are) in
       lost (upTo newline (drop (ends + 1) t)) (w .others) q (lineFrom (upTo newline (drop at t))) refl (sym (rw q) ∙ p))
       (λ h. unended (upTo newline (drop at t)) (one-piece-at newline t at ends refl h) h)
     where
-      lost : (next : List ℕ) (rest : List (List ℕ)) → partedBy newline (drop at t) ≡ upTo newline (drop at t) ∷ next ∷ rest → (o : Option text.Line) → lineFrom (upTo newline (drop at t)) ≡ o → asRead (lineParsed o) (ends + 1) (k + 1) ≡ lineread.Malformed → NoLine t at
+      lost : (next : List ℕ) (rest : List (List ℕ)) → partedBy newline (drop at t) ≡ upTo newline (drop at t) ∷ next ∷ rest
+          → (o : Option text.Line) → lineFrom (upTo newline (drop at t)) ≡ o
+          → asRead (lineParsed o) (ends + 1) (k + 1) ≡ lineread.Malformed → NoLine t at
       lost next rest q none r p = unread (upTo newline (drop at t)) next rest q r
       lost next rest q (some line) r p = cut (small (numbersOf line)) refl p
         where
-          cut : (b : Bool) → small (numbersOf line) ≡ b → asRead (asParsed (cond b (some line) none)) (ends + 1) (k + 1) ≡ lineread.Malformed → NoLine t at
+          cut : (b : Bool) → small (numbersOf line) ≡ b
+              → asRead (asParsed (cond b (some line) none)) (ends + 1) (k + 1) ≡ lineread.Malformed → NoLine t at
           cut true e p = zero-one (cc)
           cut false e p = large (upTo newline (drop at t)) next rest line q r e
 
@@ -114,7 +124,8 @@ withLine X (E-line a b m) = withEdge X a b m
 withLine X (S-line v) = withSyndrome X v
 withLine X (X-line e) = withLoss X e
 
-pub steps : (X : Sheet) (last l : text.Line) → step X last l ≡ cond (mayStand (X .board .vertices) (edges (X .board)) last l) (some (withLine X l)) none
+pub steps : (X : Sheet) (last l : text.Line)
+    → step X last l ≡ cond (mayStand (X .board .vertices) (edges (X .board)) last l) (some (withLine X l)) none
 unfolding step withLine
 steps X last (V-line n) = refl
 steps X last (E-line a b m) = refl
@@ -122,12 +133,14 @@ steps X last (S-line v) = refl
 steps X last (X-line e) = refl
 
 -- what may stand on a board within the limits has small numbers
-pub stands-small : (n m : ℕ) (last l : text.Line) → n ≤ vertexLimit → m ≤ edgeLimit → mayStand n m last l ≡ true → small (numbersOf l) ≡ true
+pub stands-small : (n m : ℕ) (last l : text.Line) → n ≤ vertexLimit → m ≤ edgeLimit → mayStand n m last l ≡ true
+    → small (numbersOf l) ≡ true
 stands-small n m last (V-line k) hn hm p = absurd (false≢true p)
 stands-small n m last (E-line a b k) hn hm p =
     let fits = and-right (edgeMayFollow last) (edgeFits n m a b k) p in
-    let mark = leb-true k 3 (and-right (ltb m edgeLimit && ltb a n && ltb b n && not (eqb a b)) (leb k 3) fits) in
-    let ab = and-left (ltb m edgeLimit && ltb a n && ltb b n) (not (eqb a b)) (and-left (ltb m edgeLimit && ltb a n && ltb b n && not (eqb a b)) (leb k 3) fits) in
+    let inside = ltb m edgeLimit && ltb a n && ltb b n in
+    let mark = leb-true k 3 (and-right (inside && not (eqb a b)) (leb k 3) fits) in
+    let ab = and-left inside (not (eqb a b)) (and-left (inside && not (eqb a b)) (leb k 3) fits) in
     let la = ltb-true a n (and-right (ltb m edgeLimit) (ltb a n) (and-left (ltb m edgeLimit && ltb a n) (ltb b n) ab)) in
     let lb = ltb-true b n (and-right (ltb m edgeLimit && ltb a n) (ltb b n) ab) in
     rw (le-leb a edgeLimit (omega arith), le-leb b edgeLimit (omega arith), le-leb k edgeLimit (omega arith))
@@ -141,19 +154,24 @@ stands-small n m last (X-line e) hn hm p =
 -- What is left of the text, by the answer about the next line
 
 module _ (X : Sheet) (last : text.Line) (k : ℕ) (t : List ℕ) (at : ℕ) where
-  pub goes-on : (l : Line) (next k′ : ℕ) → LineIs t at k l next k′ → mayStand (X .board .vertices) (edges (X .board)) last (meant l) ≡ true → readOn X last k (partedBy newline (drop at t)) ≡ readOn (withLine X (meant l)) (meant l) k′ (partedBy newline (drop next t))
+  pub goes-on : (l : Line) (next k′ : ℕ) → LineIs t at k l next k′
+      → mayStand (X .board .vertices) (edges (X .board)) last (meant l) ≡ true
+      → readOn X last k (partedBy newline (drop at t)) ≡ readOn (withLine X (meant l)) (meant l) k′ (partedBy newline (drop next t))
   unfolding readOn
   goes-on l next k′ w stands =
       let v = parted newline (drop next t) in
       rw (w .follows, add-one k, w .pieces, v .are, w .reads, steps X last (meant l), stands)
 
-  pub out-of-place : (l : Line) (next k′ : ℕ) → LineIs t at k l next k′ → mayStand (X .board .vertices) (edges (X .board)) last (meant l) ≡ false → readOn X last k (partedBy newline (drop at t)) ≡ refused (MalformedLine k)
+  pub out-of-place : (l : Line) (next k′ : ℕ) → LineIs t at k l next k′
+      → mayStand (X .board .vertices) (edges (X .board)) last (meant l) ≡ false
+      → readOn X last k (partedBy newline (drop at t)) ≡ refused (MalformedLine k)
   unfolding readOn
   out-of-place l next k′ w stands =
       let v = parted newline (drop next t) in
       rw (w .pieces, v .are, w .reads, steps X last (meant l), stands)
 
-  pub malformed : X .board .vertices ≤ vertexLimit → edges (X .board) ≤ edgeLimit → at < length t → NoLine t at → readOn X last k (partedBy newline (drop at t)) ≡ refused (MalformedLine k)
+  pub malformed : X .board .vertices ≤ vertexLimit → edges (X .board) ≤ edgeLimit → at < length t → NoLine t at
+      → readOn X last k (partedBy newline (drop at t)) ≡ refused (MalformedLine k)
   unfolding readOn
   malformed hn hm inside (unended [] p h) = absurd (no-room h)
     where
@@ -161,9 +179,11 @@ module _ (X : Sheet) (last : text.Line) (k : ℕ) (t : List ℕ) (at : ℕ) wher
       no-room h = omega arith
   malformed hn hm inside (unended (b ∷ bs) p h) = rw p
   malformed hn hm inside (unread bytes next rest p q) = rw (p, q)
-  malformed hn hm inside (large bytes next rest l p q s) = rw (p, q, steps X last l) (go (mayStand (X .board .vertices) (edges (X .board)) last l) refl)
+  malformed hn hm inside (large bytes next rest l p q s) =
+      rw (p, q, steps X last l) (go (mayStand (X .board .vertices) (edges (X .board)) last l) refl)
     where
-      go : (b : Bool) → mayStand (X .board .vertices) (edges (X .board)) last l ≡ b → orMalformed k (cond b (some (withLine X l)) none) (λ more. readOn more l (suc k) (next ∷ rest)) ≡ refused (MalformedLine k)
+      go : (b : Bool) → mayStand (X .board .vertices) (edges (X .board)) last l ≡ b
+          → orMalformed k (cond b (some (withLine X l)) none) (λ more. readOn more l (suc k) (next ∷ rest)) ≡ refused (MalformedLine k)
       go true r = absurd (false≢true (sym s ∙ stands-small (X .board .vertices) (edges (X .board)) last l hn hm r))
       go false r = refl
 
@@ -174,7 +194,8 @@ module _ (X : Sheet) (last : text.Line) (k : ℕ) (t : List ℕ) (at : ℕ) wher
 -- The first line
 
 module _ (t : List ℕ) where
-  pub first-is : (l : Line) (next k′ n : ℕ) → LineIs t 0 1 l next k′ → firstLine (meant l) ≡ some n → readText t ≡ readOn (begun n) (meant l) k′ (partedBy newline (drop next t))
+  pub first-is : (l : Line) (next k′ n : ℕ) → LineIs t 0 1 l next k′ → firstLine (meant l) ≡ some n
+      → readText t ≡ readOn (begun n) (meant l) k′ (partedBy newline (drop next t))
   unfolding readText readLines
   first-is l next k′ n w first =
       let v = parted newline (drop next t) in
@@ -192,7 +213,8 @@ module _ (t : List ℕ) where
   first-malformed (unread bytes next rest p q) = rw (p, q)
   first-malformed (large bytes next rest l p q s) = rw (p, q) (go l s)
     where
-      go : (l : text.Line) → small (numbersOf l) ≡ false → orMalformed 1 (firstLine l) (λ n. readOn (begun n) (V-line n) 2 (next ∷ rest)) ≡ refused (MalformedLine 1)
+      go : (l : text.Line) → small (numbersOf l) ≡ false
+          → orMalformed 1 (firstLine l) (λ n. readOn (begun n) (V-line n) 2 (next ∷ rest)) ≡ refused (MalformedLine 1)
       go (V-line n) s =
           let h : edgeLimit < n = leb-false n edgeLimit (sym (and-true (leb n edgeLimit)) ∙ s) in
           rw (lt-leb n vertexLimit (omega arith), and-false (leb 1 n))

@@ -12,106 +12,121 @@ use Rattle.model.specs.declared.refusal.Refusal.{Refusal}
 use Rattle.model.specs.declared.refusal.Refusal.the-variants.{BufferLength, TextLength}
 use Rattle.model.specs.declared.answers.Reading.{Reading}
 use Rattle.model.specs.declared.answers.Reading.the-variants as reading
-use Rattle.model.specs.Board.{Sheet, edges, vertexLimit, edgeLimit}
+use Rattle.model.specs.Board.{edges, vertexLimit, edgeLimit}
 use Rattle.model.specs.Refusals.{sized}
 use Rattle.model.specs.Text.{Read, complete, refused, readText}
-use Rattle.model.specs.TextOutcomes.{textLimit, over, readRefusal, readOutcome, counts, filled, Reads}
-use Rattle.text.specs.Scratch.{Sized, Holds, Held, ReadsInto}
-use Rattle.model.proofs.Contradiction.{zero-one}
-use Rattle.text.proofs.CopyLaws.{copied}
-
--- what the arrays hold where both counts came back
-pub record Counted (t : List ℕ) (n m : ℕ) (E M S L : List ℕ) : Type 0 where
-  pub sheet : Sheet
-  pub reading-is : readText t ≡ complete sheet
-  pub vertices-are : sheet .board .vertices ≡ n
-  pub edges-are : edges (sheet .board) ≡ m
-  pub holds : Holds sheet E M S L
-
-pub counted : (t : List ℕ) (r : Reading) (n m : ℕ) (E M S L : List ℕ) → ReadsInto t r E M S L → r ≡ reading.Counts n m → Counted t n m E M S L
-counted t r n m E M S L w p = go (readText t) refl (sym (w .result) ∙ p) (w .held)
-  where
-    go : (o : Read) → readText t ≡ o → counts o ≡ reading.Counts n m → Held o E M S L → Counted t n m E M S L
-    go (complete X) q p h =
-        let a : X .board .vertices ≡ n = cc in
-        let b : edges (X .board) ≡ m = cc in
-        record { sheet = X; reading-is = q; vertices-are = a; edges-are = b; holds = h }
-    go (refused k) q p h = zero-one (cc)
+use Rattle.model.specs.TextOutcomes.{textLimit, over, Buffers, buffersOf, readRefusal, readOutcome, counts, filled, Reads}
+use Rattle.board.proofs.CopyLaws.{copied}
+use Rattle.text.specs.Scratch.{Sized, Held, ReadsInto}
 
 -- the lent buffers have their lengths
-abbrev pub fit : List ℕ → List ℕ → List ℕ → List ℕ → Bool
-fit e m s l = sized e (2 * edgeLimit) && sized m edgeLimit && sized s vertexLimit && sized l edgeLimit
+abbrev pub fit : Buffers → Bool
+fit b = sized (b .ends) (2 * edgeLimit) && sized (b .marks) edgeLimit && sized (b .syndrome) vertexLimit && sized (b .loss) edgeLimit
 
-pub fits-sized : (e m s l : List ℕ) → fit e m s l ≡ true → Sized e m s l
-fits-sized e m s l p =
-    let ems = and-left (sized e (2 * edgeLimit) && sized m edgeLimit && sized s vertexLimit) (sized l edgeLimit) p in
-    let em = and-left (sized e (2 * edgeLimit) && sized m edgeLimit) (sized s vertexLimit) ems in
+pub fits-sized : (b : Buffers) → fit b ≡ true → Sized b
+fits-sized b p =
+    let e = sized (b .ends) (2 * edgeLimit) in
+    let m = sized (b .marks) edgeLimit in
+    let s = sized (b .syndrome) vertexLimit in
+    let l = sized (b .loss) edgeLimit in
+    let ems = and-left (e && m && s) l p in
+    let em = and-left (e && m) s ems in
     record {
-      ends-long = eqb-true (length e) (2 * edgeLimit) (and-left (sized e (2 * edgeLimit)) (sized m edgeLimit) em);
-      marks-long = eqb-true (length m) edgeLimit (and-right (sized e (2 * edgeLimit)) (sized m edgeLimit) em);
-      syndrome-long = eqb-true (length s) vertexLimit (and-right (sized e (2 * edgeLimit) && sized m edgeLimit) (sized s vertexLimit) ems);
-      loss-long = eqb-true (length l) edgeLimit (and-right (sized e (2 * edgeLimit) && sized m edgeLimit && sized s vertexLimit) (sized l edgeLimit) p);
+      ends-long = eqb-true _ _ (and-left e m em);
+      marks-long = eqb-true _ _ (and-right e m em);
+      syndrome-long = eqb-true _ _ (and-right (e && m) s ems);
+      loss-long = eqb-true _ _ (and-right (e && m && s) l p);
     }
 
-pub sized-fits : (e m s l : List ℕ) → Sized e m s l → fit e m s l ≡ true
-sized-fits e m s l z =
+pub sized-fits : (b : Buffers) → Sized b → fit b ≡ true
+sized-fits b z =
     rw (
-      eq-eqb (length e) (2 * edgeLimit) (z .ends-long),
-      eq-eqb (length m) edgeLimit (z .marks-long),
-      eq-eqb (length s) vertexLimit (z .syndrome-long),
-      eq-eqb (length l) edgeLimit (z .loss-long),
+      eq-eqb (length (b .ends)) (2 * edgeLimit) (z .ends-long),
+      eq-eqb (length (b .marks)) edgeLimit (z .marks-long),
+      eq-eqb (length (b .syndrome)) vertexLimit (z .syndrome-long),
+      eq-eqb (length (b .loss)) edgeLimit (z .loss-long),
     )
 
+-- how many vertices and edges a reading fills in: none where it is refused
+abbrev pub verticesFilled : Reading → ℕ
+verticesFilled (reading.Counts n m) = n
+verticesFilled (reading.Refused f) = 0
+
+abbrev pub edgesFilled : Reading → ℕ
+edgesFilled (reading.Counts n m) = m
+edgesFilled (reading.Refused f) = 0
+
+-- the entries of n vertices and m edges copied from one buffer after the other
+abbrev copiedOver : Buffers → Buffers → ℕ → ℕ → Buffers
+copiedOver new old n m =
+    record {
+      ends = copied (new .ends) (old .ends) (2 * m);
+      marks = copied (new .marks) (old .marks) m;
+      syndrome = copied (new .syndrome) (old .syndrome) n;
+      loss = copied (new .loss) (old .loss) m;
+    }
+
+-- a reading's counts are within the limits
+pub few-filled : (t : List ℕ) (r : Reading) (b : Buffers) → ReadsInto t r b
+    → (verticesFilled r ≤ vertexLimit) × (edgesFilled r ≤ edgeLimit)
+few-filled t r b w = rw (w .result) (go (readText t) (w .held))
+  where
+    go : (o : Read) → Held o b → (verticesFilled (counts o) ≤ vertexLimit) × (edgesFilled (counts o) ≤ edgeLimit)
+    go (complete X) h = (h .vertex-limit, h .edge-limit)
+    go (refused f) h = (omega arith, omega arith)
+
 -- the entries held in front, copied over what is lent
-laid : (E e part : List ℕ) (k : ℕ) → take k E ≡ part → k ≤ length E → copied E e k ≡ over part e
-laid E e part k p h =
-    ap (λ x. x ++ drop k e) p ∙ ap (λ n. part ++ drop n e) (sym (length-take-le k E h) ∙ ap length p)
+laid : (new old : List ℕ) {part : List ℕ} (k : ℕ) → take k new ≡ part → k ≤ length new → copied new old k ≡ over part old
+laid new old {part} k p h =
+    ap (λ x. x ++ drop k old) p ∙ ap (λ n. part ++ drop n old) (sym (length-take-le k new h) ∙ ap length p)
 
-module _ (t e m s l : List ℕ) where
-  -- a refusal writes nothing
-  nothing-written : (n : Refusal) → readOutcome t e m s l ≡ refused n → Reads t e m s l (reading.Refused n) e m s l
-  nothing-written n p =
-      record {
-        result = sym (ap counts p);
-        ends-filled = sym (ap (λ o. filled o (λ X. X .board .ends) e) p);
-        marks-filled = sym (ap (λ o. filled o (λ X. X .board .marks) m) p);
-        syndrome-filled = sym (ap (λ o. filled o (λ X. X .syndrome) s) p);
-        loss-filled = sym (ap (λ o. filled o (λ X. X .loss) l) p);
-      }
+-- what was read, copied over what is lent
+copied-filled : (o : Read) (new old : Buffers) → Held o new
+    → copiedOver new old (verticesFilled (counts o)) (edgesFilled (counts o)) ≡ filled o old
+copied-filled (refused f) new old h = refl
+copied-filled (complete X) new old h =
+    let n = X .board .vertices in
+    let m = edges (X .board) in
+    let z = h .sized in
+    λ i.
+    buffersOf
+    (laid (new .ends) (old .ends) (2 * m) (h .ends-held) (omega (arith, h .edge-limit, z .ends-long)) i)
+    (laid (new .marks) (old .marks) m (h .marks-held) (omega (arith, h .edge-limit, z .marks-long)) i)
+    (laid (new .syndrome) (old .syndrome) n (h .syndrome-held) (omega (arith, h .vertex-limit, z .syndrome-long)) i)
+    (laid (new .loss) (old .loss) m (h .loss-held) (omega (arith, h .edge-limit, z .loss-long)) i)
 
-  pub wrong-length : fit e m s l ≡ false → Reads t e m s l (reading.Refused BufferLength) e m s l
+module _ (t : List ℕ) (old : Buffers) where
+  -- a test that fails writes nothing
+  nothing-written : (n : Refusal) → readOutcome t old ≡ refused n → Reads t old (reading.Refused n) old
+  nothing-written n p = record { result = sym (ap counts p); buffers = sym (ap (λ o. filled o old) p) }
+
+  pub wrong-length : fit old ≡ false → Reads t old (reading.Refused BufferLength) old
   unfolding readOutcome readRefusal
   wrong-length p = nothing-written BufferLength (rw p)
 
-  module _ (fits : fit e m s l ≡ true) where
-    pub too-long : textLimit < length t → Reads t e m s l (reading.Refused TextLength) e m s l
+  module _ (fits : fit old ≡ true) where
+    pub too-long : textLimit < length t → Reads t old (reading.Refused TextLength) old
     unfolding readOutcome readRefusal
     too-long h = nothing-written TextLength (rw (fits, lt-leb (length t) textLimit h))
 
     module _ (short : length t ≤ textLimit) where
       -- the lines decide
-      pub by-lines : readOutcome t e m s l ≡ readText t
+      pub by-lines : readOutcome t old ≡ readText t
       unfolding readOutcome readRefusal
       by-lines = rw (fits, le-leb (length t) textLimit short)
 
-      pub malformed : (r : Reading) (n : Refusal) (E M S L : List ℕ) → ReadsInto t r E M S L → r ≡ reading.Refused n → Reads t e m s l r e m s l
-      malformed r n E M S L w p = rw p (go (readText t) refl (sym (w .result) ∙ p))
-        where
-          go : (o : Read) → readText t ≡ o → counts o ≡ reading.Refused n → Reads t e m s l (reading.Refused n) e m s l
-          go (complete X) q p = zero-one (cc)
-          go (refused k) q p = let same : k ≡ n = cc in nothing-written n (by-lines ∙ q ∙ ap refused same)
-
-      -- both counts came back, and the entries held in front were copied
-      pub all-filled : (n k : ℕ) (E M S L e′ m′ s′ l′ : List ℕ) → Counted t n k E M S L → e′ ≡ copied E e (2 * k) → m′ ≡ copied M m k → s′ ≡ copied S s n → l′ ≡ copied L l k → Reads t e m s l (reading.Counts n k) e′ m′ s′ l′
-      all-filled n k E M S L e′ m′ s′ l′ w e-is m-is s-is l-is =
-          let X = w .sheet in
-          let is = by-lines ∙ w .reading-is in
-          let h = w .holds in
-          let z = h .sized in
+      -- as many entries were copied as the reading fills in
+      pub reads : (r : Reading) (new : Buffers) (n m : ℕ) (e k s l : List ℕ) → ReadsInto t r new → n ≡ verticesFilled r
+          → m ≡ edgesFilled r
+          → e ≡ copied (new .ends) (old .ends) (2 * m) → k ≡ copied (new .marks) (old .marks) m
+          → s ≡ copied (new .syndrome) (old .syndrome) n → l ≡ copied (new .loss) (old .loss) m
+          → Reads t old r (buffersOf e k s l)
+      reads r new n m e k s l w vertices edges e-is k-is s-is l-is =
           record {
-            result = ap₂ reading.Counts (sym (w .vertices-are)) (sym (w .edges-are)) ∙ sym (ap counts is);
-            ends-filled = rw (e-is, ← (w .edges-are)) (laid E e (X .board .ends) (2 * edges (X .board)) (h .ends-held) (omega arith) ∙ sym (ap (λ o. filled o (λ Y. Y .board .ends) e) is));
-            marks-filled = rw (m-is, ← (w .edges-are)) (laid M m (X .board .marks) (edges (X .board)) (h .marks-held) (omega arith) ∙ sym (ap (λ o. filled o (λ Y. Y .board .marks) m) is));
-            syndrome-filled = rw (s-is, ← (w .vertices-are)) (laid S s (X .syndrome) (X .board .vertices) (h .syndrome-held) (omega arith) ∙ sym (ap (λ o. filled o (λ Y. Y .syndrome) s) is));
-            loss-filled = rw (l-is, ← (w .edges-are)) (laid L l (X .loss) (edges (X .board)) (h .loss-held) (omega arith) ∙ sym (ap (λ o. filled o (λ Y. Y .loss) l) is));
+            result = w .result ∙ ap counts (sym by-lines);
+            buffers =
+                (λ i. buffersOf (e-is i) (k-is i) (s-is i) (l-is i))
+                ∙ ap₂ (copiedOver new old) (vertices ∙ ap verticesFilled (w .result)) (edges ∙ ap edgesFilled (w .result))
+                ∙ copied-filled (readText t) new old (w .held)
+                ∙ ap (λ o. filled o old) (sym by-lines);
           }

@@ -12,30 +12,31 @@ use lib.Dec.{leb, ltb}
 use Rattle.model.specs.declared.refusal.Refusal.the-variants.{BufferLength, TextLength, MalformedLine}
 use Rattle.model.specs.declared.answers.Reading.the-variants as reading
 use Rattle.model.specs.Text.{newline, Read, complete, refused, readText}
-use Rattle.model.specs.TextOutcomes.{textLimit, readRefusal, readOutcome, counts, Reads}
+use Rattle.model.specs.TextOutcomes.{textLimit, Buffers, readRefusal, readOutcome, counts, Reads}
 use Rattle.model.specs.LineNumbers.{newlines, newlinesBefore, lineNumber, LineBegins, FirstMalformed, FirstMalformedNumber}
 use Rattle.model.proofs.Contradiction.{zero-one}
+use Rattle.model.proofs.CountLaws.{count-less, count-before}
 use Rattle.theory.proofs.LinePlaces.{malformed-place, one-number}
-use Rattle.board.proofs.Counting.{count-less, count-before}
 use Rattle.text.proofs.ReadOutcome.{fit}
 
 -- the tests before the lines give other numbers
-by-lines : (text ends marks syndrome loss : List ℕ) (k : ℕ) → reading.Refused (MalformedLine k) ≡ counts (readOutcome text ends marks syndrome loss)
+by-lines : (text : List ℕ) (old : Buffers) (k : ℕ) → reading.Refused (MalformedLine k) ≡ counts (readOutcome text old)
     → reading.Refused (MalformedLine k) ≡ counts (readText text)
 unfolding readOutcome readRefusal
-by-lines text ends marks syndrome loss k p = go (fit ends marks syndrome loss) refl (leb (length text) textLimit) refl
+by-lines text old k p = go (fit old) refl (leb (length text) textLimit) refl
   where
-    go : (f : Bool) → fit ends marks syndrome loss ≡ f → (b : Bool) → leb (length text) textLimit ≡ b → reading.Refused (MalformedLine k) ≡ counts (readText text)
+    go : (f : Bool) → fit old ≡ f → (b : Bool) → leb (length text) textLimit ≡ b
+        → reading.Refused (MalformedLine k) ≡ counts (readText text)
     go false q b r = let wrong : reading.Refused (MalformedLine k) ≡ reading.Refused BufferLength = rw q at p in zero-one (cc)
     go true q false r = let wrong : reading.Refused (MalformedLine k) ≡ reading.Refused TextLength = rw (q, r) at p in zero-one (cc)
     go true q true r = rw (q, r) at p
 
 pub read-place :
-    {text ends marks syndrome loss ends′ marks′ syndrome′ loss′ : List ℕ} {k : ℕ} →
-    Reads text ends marks syndrome loss (reading.Refused (MalformedLine k)) ends′ marks′ syndrome′ loss′ →
+    {text : List ℕ} {old new : Buffers} {k : ℕ} →
+    Reads text old (reading.Refused (MalformedLine k)) new →
     FirstMalformedNumber text k
-read-place {text} {ends} {marks} {syndrome} {loss} {k = k} reads =
-    lines (readText text) refl (by-lines text ends marks syndrome loss k (reads .result))
+read-place {text} {old} {k = k} reads =
+    lines (readText text) refl (by-lines text old k (reads .result))
   where
     lines : (o : Read) → readText text ≡ o → reading.Refused (MalformedLine k) ≡ counts o → FirstMalformedNumber text k
     lines (complete X) q p = zero-one (cc)
@@ -46,7 +47,8 @@ later-number : (text : List ℕ) (i j : ℕ) → i < j → LineBegins text j →
 unfolding newlinesBefore
 later-number text i zero h b = absurd (not-suc-le-zero h)
 later-number text i (suc p) h b =
-    omega (arith, count-less i p (newlines text) (le-of-suc-le-suc h), count-before p (suc p) (newlines text) (omega arith) (eq-eqb (getD text p 0) newline b))
+    let before = count-less i p (newlines text) (le-of-suc-le-suc h) in
+    omega (arith, count-before p (suc p) (newlines text) (omega arith) (eq-eqb (getD text p 0) newline b))
 
 not-later : (text : List ℕ) (i j : ℕ) → FirstMalformed text i → FirstMalformed text j → j ≤ i
 not-later text i j f g = go (ltb i j) refl

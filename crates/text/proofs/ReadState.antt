@@ -11,6 +11,7 @@ use denote.Enum.Laws as Enums
 use Rattle.model.specs.declared.refusal.Refusal.the-variants.{MalformedLine}
 use Rattle.model.specs.declared.answers.Reading.{Reading}
 use Rattle.model.specs.declared.answers.Reading.the-variants as reading
+use Rattle.model.specs.TextOutcomes.{Buffers}
 use Rattle.model.proofs.refusal.Refusal as Refusal
 use Rattle.model.proofs.refusal.Refusal.Laws as Refusal′
 use Rattle.model.proofs.answers.Reading as Reading
@@ -23,14 +24,11 @@ use Rattle.text.proofs.stage.Stage.Laws as Stage′
 
 -- what the arrays hold, the reader's position and number, and the stage
 pub record State (t : List ℕ) : Type 0 where
-  pub ends : List ℕ
-  pub marks : List ℕ
-  pub syndrome : List ℕ
-  pub loss : List ℕ
+  pub arrays : Buffers
   pub at : ℕ
   pub number : ℕ
   pub stage : Stage
-  pub reached : Reached t ends marks syndrome loss at number stage
+  pub reached : Reached t arrays at number stage
   pub at-fits : at < 2 ^ 64
   pub number-fits : number < 2 ^ 64
   pub stage-is : Is Stage.the-row stage (Stage′.lowered stage ∷ [])

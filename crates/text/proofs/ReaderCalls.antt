@@ -32,19 +32,19 @@ use denote.Triple.Clauses.{ensured, lasts}
 use denote.Triple.Walked.{says}
 use Rattle.model.specs.LineNumbers.{lineNumber}
 use Rattle.text.specs.declared.line.LineRead.{LineRead}
-use Rattle.text.specs.declared.lines.Lines.{Lines}
-use Rattle.text.specs.Lines.{ReadsLine}
-use Rattle.text.specs.Reader.{AtStart, MovedOn}
-use Rattle.text.proofs.Reader.{textLft, Held, Whole, textValue, Text, made}
+use Rattle.text.specs.declared.reader.Lines.{Lines}
+use Rattle.text.specs.LineReadings.{ReadsLine}
+use Rattle.text.specs.LineReader.{AtStart, MovedOn}
+use Rattle.text.proofs.ReaderOwnership.{textLft, Held, Whole, textValue, Text, made}
 use Rattle.text.proofs.line.LineRead as Answer
 use Rattle.text.proofs.line.LineRead.Laws as Answer′
-use Rattle.text.proofs.lines.Lines.Laws as Reader′
-use Rattle.text.proofs.lines.lines_of as lines-of
-use Rattle.text.proofs.lines.lines_of.Symbol.{name as #lines-of}
-use Rattle.text.proofs.lines.next_line as next-line
-use Rattle.text.proofs.lines.next_line.Symbol.{name as #next-line}
-use Rattle.text.proofs.lines.moved_on as moved-on
-use Rattle.text.proofs.lines.moved_on.Symbol.{name as #moved-on}
+use Rattle.text.proofs.reader.Lines.Laws as Reader′
+use Rattle.text.proofs.reader.lines_of as lines-of
+use Rattle.text.proofs.reader.lines_of.Symbol.{name as #lines-of}
+use Rattle.text.proofs.reader.next_line as next-line
+use Rattle.text.proofs.reader.next_line.Symbol.{name as #next-line}
+use Rattle.text.proofs.reader.moved_on as moved-on
+use Rattle.text.proofs.reader.moved_on.Symbol.{name as #moved-on}
 
 module _ {M : Type 1} (𝓤 : URA M) (H : Heap 𝓤) (A : Atoms 𝓤) (mem : Memory → SProp 𝓤) (run : Routine → Fun 𝓤) where
   abbrev pub LinesOf : Contract 𝓤

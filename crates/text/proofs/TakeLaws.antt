@@ -2,39 +2,32 @@
 use Prim.Native.Nat.{ℕ}
 use mathlib.Core.Path.{_≡_, refl, ap, _∙_}
 use mathlib.Core.Bool.{Bool, true, false, cond}
-use mathlib.Core.List.{List}
+use Rattle.model.specs.TextOutcomes.{Buffers}
 use Rattle.model.proofs.Contradiction.{zero-one}
 use Rattle.text.specs.declared.line.Line.{Line}
 use Rattle.text.specs.declared.stage.Stage.{Stage}
 use Rattle.text.specs.declared.stage.Stage.the-variants as stage
 use Rattle.text.specs.Order.{meant, mayStand}
-use Rattle.text.specs.Scratch.{endsWith, marksWith, syndromeWith, lossWith, edgesWith, Stores}
+use Rattle.text.specs.Scratch.{stored, edgesWith, Stores}
 use Rattle.text.specs.Stages.{begunWith, taken, Takes}
 
 -- The stage before the line is known
 
-module _ (s : Stage) (l : Line) (E M S L : List ℕ) where
-  pub takes-first : (r : Stage) → s ≡ stage.Start → r ≡ begunWith l → Takes s l E M S L r E M S L
-  takes-first r p q = rw p (record { result = q; ends-are = refl; marks-are = refl; syndrome-is = refl; loss-is = refl })
+module _ (s : Stage) (l : Line) (b : Buffers) where
+  pub takes-first : (r : Stage) → s ≡ stage.Start → r ≡ begunWith l → Takes s l b r b
+  takes-first r p q = rw p (record { result = q; arrays = refl })
 
-  pub takes-none : s ≡ stage.Malformed → Takes s l E M S L stage.Malformed E M S L
-  takes-none p = rw p (record { result = refl; ends-are = refl; marks-are = refl; syndrome-is = refl; loss-is = refl })
+  pub takes-none : s ≡ stage.Malformed → Takes s l b stage.Malformed b
+  takes-none p = rw p (record { result = refl; arrays = refl })
 
   module _ (n m : ℕ) (last : Line) (sheet : s ≡ stage.Sheet n m last) where
-    pub takes-no-more : mayStand n m (meant last) (meant l) ≡ false → Takes s l E M S L stage.Malformed E M S L
-    takes-no-more p =
-        rw sheet (record { result = rw p; ends-are = rw p; marks-are = rw p; syndrome-is = rw p; loss-is = rw p })
+    pub takes-no-more : mayStand n m (meant last) (meant l) ≡ false → Takes s l b stage.Malformed b
+    takes-no-more p = rw sheet (record { result = rw p; arrays = rw p })
 
-    pub takes-on : (m′ : ℕ) (E′ M′ S′ L′ : List ℕ) → mayStand n m (meant last) (meant l) ≡ true → Stores m (meant l) E M S L m′ E′ M′ S′ L′ → Takes s l E M S L (stage.Sheet n m′ l) E′ M′ S′ L′
-    takes-on m′ E′ M′ S′ L′ p r =
-        rw sheet
-        (record {
-          result = rw p (ap (λ i. stage.Sheet n i l) (r .count));
-          ends-are = rw p (r .ends-are);
-          marks-are = rw p (r .marks-are);
-          syndrome-is = rw p (r .syndrome-is);
-          loss-is = rw p (r .loss-is);
-        })
+    pub takes-on : (m′ : ℕ) (b′ : Buffers) → mayStand n m (meant last) (meant l) ≡ true → Stores m (meant l) b m′ b′
+        → Takes s l b (stage.Sheet n m′ l) b′
+    takes-on m′ b′ p r =
+        rw sheet (record { result = rw p (ap (λ i. stage.Sheet n i l) (r .count)); arrays = rw p (r .arrays) })
 
 -- The stage after one line more is known, and the stage before it is a sheet
 
@@ -48,7 +41,8 @@ module _ (n m : ℕ) (last l : Line) where
   pub is-taken : (n′ m′ : ℕ) (last′ : Line) → stage.Sheet n′ m′ last′ ≡ taken (stage.Sheet n m last) l → TakenBy n′ m′ last′
   is-taken n′ m′ last′ p = go (mayStand n m (meant last) (meant l)) refl p
     where
-      go : (b : Bool) → mayStand n m (meant last) (meant l) ≡ b → stage.Sheet n′ m′ last′ ≡ cond b (stage.Sheet n (edgesWith m (meant l)) l) stage.Malformed → TakenBy n′ m′ last′
+      go : (b : Bool) → mayStand n m (meant last) (meant l) ≡ b
+          → stage.Sheet n′ m′ last′ ≡ cond b (stage.Sheet n (edgesWith m (meant l)) l) stage.Malformed → TakenBy n′ m′ last′
       go true q p =
           let stay : n′ ≡ n = cc in
           let more : m′ ≡ edgesWith m (meant l) = cc in
@@ -59,7 +53,9 @@ module _ (n m : ℕ) (last l : Line) where
   pub not-taken : stage.Malformed ≡ taken (stage.Sheet n m last) l → mayStand n m (meant last) (meant l) ≡ false
   not-taken p = go (mayStand n m (meant last) (meant l)) refl p
     where
-      go : (b : Bool) → mayStand n m (meant last) (meant l) ≡ b → stage.Malformed ≡ cond b (stage.Sheet n (edgesWith m (meant l)) l) stage.Malformed → mayStand n m (meant last) (meant l) ≡ false
+      go : (b : Bool) → mayStand n m (meant last) (meant l) ≡ b
+          → stage.Malformed ≡ cond b (stage.Sheet n (edgesWith m (meant l)) l) stage.Malformed
+          → mayStand n m (meant last) (meant l) ≡ false
       go true q p = zero-one (cc)
       go false q p = q
 
@@ -70,14 +66,8 @@ module _ (n m : ℕ) (last l : Line) where
       go true p = zero-one (cc)
       go false p = zero-one (cc)
 
-  module _ (E M S L E′ M′ S′ L′ : List ℕ) (n′ m′ : ℕ) (last′ : Line) (r : Takes (stage.Sheet n m last) l E M S L (stage.Sheet n′ m′ last′) E′ M′ S′ L′) where
-    pub stores : Stores m (meant l) E M S L m′ E′ M′ S′ L′
+  module _ (b b′ : Buffers) (n′ m′ : ℕ) (last′ : Line) (r : Takes (stage.Sheet n m last) l b (stage.Sheet n′ m′ last′) b′) where
+    pub stores : Stores m (meant l) b m′ b′
     stores =
         let v = is-taken n′ m′ last′ (r .result) in
-        record {
-          count = v .count;
-          ends-are = r .ends-are ∙ ap (λ b. cond b (endsWith m (meant l) E) E) (v .may-stand);
-          marks-are = r .marks-are ∙ ap (λ b. cond b (marksWith m (meant l) M) M) (v .may-stand);
-          syndrome-is = r .syndrome-is ∙ ap (λ b. cond b (syndromeWith (meant l) S) S) (v .may-stand);
-          loss-is = r .loss-is ∙ ap (λ b. cond b (lossWith m (meant l) L) L) (v .may-stand);
-        }
+        record { count = v .count; arrays = r .arrays ∙ ap (λ t. cond t (stored m (meant l) b) b) (v .may-stand) }

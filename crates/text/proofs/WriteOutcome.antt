@@ -2,14 +2,14 @@
 use Prim.Native.Nat.{ℕ, _+_, _≤_, _<_}
 use mathlib.Core.Path.{_≡_, refl, sym, ap, _∙_}
 use mathlib.Core.Bool.{true}
-use mathlib.Core.List.{List, [], _∷_, _++_, map}
+use mathlib.Core.List.{List, [], _∷_, _++_}
 use mathlib.Core.Option.{none, some}
 use native.Mathlib.Nat.{zero-add}
 use native.Mathlib.Omega.{arith}
 use borrow.Author.Tests.{le-leb, lt-leb}
 use lib.ListN.{length, take, drop}
 use lib.Seq.{sets-eq, take-at}
-use Rattle.board.specs.Rules.{sheetRefusal}
+use Rattle.board.proofs.CopyLaws.{copied}
 use Rattle.board.proofs.Validity.{sheet-passes}
 use Rattle.board.proofs.Calls.{sheet-then}
 use Rattle.model.specs.declared.refusal.Refusal.{Refusal}
@@ -17,31 +17,30 @@ use Rattle.model.specs.declared.refusal.Refusal.the-variants.{TextLength, TextB
 use Rattle.model.specs.declared.answers.Written.the-variants as written
 use Rattle.model.specs.Sums.{orElse}
 use Rattle.model.specs.Board.{Sheet, ValidSheet}
-use Rattle.model.specs.Refusals.{Test, tested, firstFailure}
+use Rattle.model.specs.Refusals.{Rule, refusalOf, sheetRules}
 use Rattle.model.specs.Text.{textOf}
 use Rattle.model.specs.TextOutcomes.{textLimit, textRule, textBufferRule, writeRefusal, writeAnswer, Writes}
 use Rattle.text.specs.Printing.{Puts, sheetBytes}
 use Rattle.text.proofs.PrintLaws.{text-bytes}
-use Rattle.text.proofs.CopyLaws.{copied}
 
 -- the tests 1 to 8 of the sheet, then those of the text
 module _ (X : Sheet) (buffer : List ℕ) where
-  abbrev pub textTests : List Test
-  textTests = map tested (textRule (textOf X) ∷ textBufferRule (textOf X) buffer ∷ [])
+  abbrev pub textRules : List Rule
+  textRules = textRule (textOf X) ∷ textBufferRule (textOf X) buffer ∷ []
 
-  pub write-tests : writeRefusal X buffer ≡ orElse (sheetRefusal X true) (firstFailure textTests)
+  pub write-tests : writeRefusal X buffer ≡ orElse (refusalOf (sheetRules X true)) (refusalOf textRules)
   unfolding writeRefusal
-  write-tests = sheet-then X textTests
+  write-tests = sheet-then X true textRules
 
   -- a refusal writes nothing
   nothing-written : (n : Refusal) → writeRefusal X buffer ≡ some n → Writes X buffer (written.Refused n) buffer
   unfolding writeAnswer
   nothing-written n p = record { result = rw p; text-written = refl }
 
-  pub sheet-refused : (n : Refusal) → sheetRefusal X true ≡ some n → Writes X buffer (written.Refused n) buffer
+  pub sheet-refused : (n : Refusal) → refusalOf (sheetRules X true) ≡ some n → Writes X buffer (written.Refused n) buffer
   sheet-refused n p = nothing-written n (write-tests ∙ rw p)
 
-  module _ (passes : sheetRefusal X true ≡ none) where
+  module _ (passes : refusalOf (sheetRules X true) ≡ none) where
     pub valid : ValidSheet X
     valid = sheet-passes X true passes .sheet
 
@@ -59,7 +58,8 @@ module _ (X : Sheet) (buffer : List ℕ) where
       pub no-room : k ≤ textLimit → length buffer < k → Writes X buffer (written.Refused TextBuffer) buffer
       no-room short h = nothing-written TextBuffer (write-tests ∙ rw (passes, is-long, le-leb k textLimit short, lt-leb k (length buffer) h))
 
-      pub all-written : k ≤ textLimit → k ≤ length buffer → (lines buffer′ : List ℕ) → take k lines ≡ sheetBytes X → buffer′ ≡ copied lines buffer k → Writes X buffer (written.Bytes k) buffer′
+      pub all-written : k ≤ textLimit → k ≤ length buffer → (lines buffer′ : List ℕ) → take k lines ≡ sheetBytes X
+          → buffer′ ≡ copied lines buffer k → Writes X buffer (written.Bytes k) buffer′
       unfolding writeAnswer
       all-written short room lines buffer′ front is =
           record {

@@ -1,7 +1,7 @@
 pub mod Pieces
-pub mod Fields
-pub mod Lines
-pub mod Reader
+pub mod FieldReadings
+pub mod LineReadings
+pub mod LineReader
 pub mod Order
 pub mod Scratch
 pub mod Stages

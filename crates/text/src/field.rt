@@ -1,16 +1,18 @@
+use model::limits::EDGES;
 ghost use mathlib.Core.Path.{_≡_};
 ghost use lib.ListN.{drop};
+ghost use Rattle.model.specs.Lent.{before};
 ghost use Rattle.model.specs.Text.{tab};
 ghost use Rattle.text.specs.Pieces.{upTo};
-ghost use Rattle.text.specs.Fields.{digitRead, fieldRead};
+ghost use Rattle.text.specs.FieldReadings.{digitRead, fieldRead};
 
 // The byte that parts two fields.
 pub const TAB: u8 = 9;
 
 pub const DIGIT_ZERO: u8 = 48;
 
-// No field of a text is above this: a larger number breaks every range.
-const LARGEST: u16 = 4096;
+// No field of a text is above the largest edge count: a larger number breaks every range.
+const LARGEST: u16 = EDGES as u16;
 
 // What a field reads as: its number and the position after it, where its tab or the line's end stands.
 pub enum Field {
@@ -39,7 +41,7 @@ fn digit_of(byte: u8) -> Digit
 
 // The field of a line that begins at a position: base ten without leading zeros.
 pub fn field_at(line: &[u8], at: usize) -> Field
-    ensures { λ r. ⌜ r ≡ fieldRead at (upTo tab (drop at (now (line .entry)))) ⌝ }
+    ensures { λ r. ⌜ r ≡ fieldRead at (upTo tab (drop at (before line))) ⌝ }
 {
     if line.len() <= at {
         return Field::Malformed;

@@ -6,10 +6,11 @@ use model::numbers::Vertex;
 ghost use mathlib.Core.Path.{_≡_};
 ghost use Prim.Native.Nat.{_+_};
 ghost use lib.ListN.{length, drop};
+ghost use Rattle.model.specs.Lent.{before};
 ghost use Rattle.model.specs.Text.{newline, tab, letterE, partedBy, lineFrom};
 ghost use Rattle.model.specs.LineNumbers.{lineNumber};
 ghost use Rattle.text.specs.Pieces.{upTo};
-ghost use Rattle.text.specs.Lines.{numberParsed, fieldsParsed, lineParsed, ReadsLine};
+ghost use Rattle.text.specs.LineReadings.{numberParsed, fieldsParsed, lineParsed, ReadsLine};
 
 // The byte that ends a line.
 pub const NEWLINE: u8 = 10;
@@ -53,7 +54,7 @@ pub enum LineRead {
 
 // The position of the newline that ends the line at a position, or the text's end.
 fn line_end(text: &[u8], at: usize) -> usize
-    ensures { λ r. ⌜ r ≡ at + length (upTo newline (drop at (now (text .entry)))) ⌝ }
+    ensures { λ r. ⌜ r ≡ at + length (upTo newline (drop at (before text))) ⌝ }
 {
     let mut end = at;
     while end < text.len() {
@@ -67,7 +68,7 @@ fn line_end(text: &[u8], at: usize) -> usize
 
 // An edge's line: three fields from the third byte on.
 fn edge_line(line: &[u8]) -> Parsed
-    ensures { λ r. ⌜ r ≡ fieldsParsed letterE (partedBy tab (drop 2 (now (line .entry)))) ⌝ }
+    ensures { λ r. ⌜ r ≡ fieldsParsed letterE (partedBy tab (drop 2 (before line))) ⌝ }
 {
     let Field::Number {
         value: first,
@@ -120,7 +121,7 @@ fn number_line(letter: u8, value: u16) -> Parsed
 
 // A line without its newline: a letter, a tab, and its fields.
 fn line_of(line: &[u8]) -> Parsed
-    ensures { λ r. ⌜ r ≡ lineParsed (lineFrom (now (line .entry))) ⌝ }
+    ensures { λ r. ⌜ r ≡ lineParsed (lineFrom (before line)) ⌝ }
 {
     if line.len() < 2 {
         return Parsed::Malformed;
@@ -145,7 +146,7 @@ fn line_of(line: &[u8]) -> Parsed
 // The line of a text that begins at a position and has this number; a line without its newline is malformed.
 pub fn line_at(text: &[u8], at: usize, number: usize) -> LineRead
     requires { ⌜ number ≡ lineNumber (now text) at ⌝ }
-    ensures { λ r. ⌜ ReadsLine (now (text .entry)) at number r ⌝ }
+    ensures { λ r. ⌜ ReadsLine (before text) at number r ⌝ }
 {
     let end = line_end(text, at);
     if text.len() <= end {

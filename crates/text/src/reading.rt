@@ -1,33 +1,35 @@
-use crate::copy::copy_bytes;
-use crate::copy::copy_numbers;
 use crate::line::LineRead;
-use crate::lines::lines_of;
-use crate::lines::moved_on;
-use crate::lines::next_line;
+use crate::reader::lines_of;
+use crate::reader::moved_on;
+use crate::reader::next_line;
 use crate::stage::Stage;
 use crate::stage::take_line;
+use board::copy::copy_bytes;
+use board::copy::copy_numbers;
 use model::answers::Reading;
 use model::limits::EDGES;
+use model::limits::ENDS;
 use model::limits::TEXT;
 use model::limits::VERTICES;
 use model::refusal::Refusal;
 ghost use mathlib.Core.Path.{_≡_};
 ghost use Prim.Native.Nat.{ℕ};
 ghost use lib.ListN.{getD};
-ghost use Rattle.model.specs.TextOutcomes.{Reads};
+ghost use Rattle.model.specs.Lent.{before, after};
+ghost use Rattle.model.specs.TextOutcomes.{buffersOf, Reads};
 ghost use Rattle.text.specs.Scratch.{Sized, ReadsInto};
 
 // Reads a text line by line into arrays, of which the syndrome's is all 0. A line that doesn't read ends the reading there.
 fn read_lines(
     text: &[u8],
-    ends: &mut [u16; 8192],
-    marks: &mut [u8; 4096],
-    syndrome: &mut [u8; 1024],
-    loss: &mut [u8; 4096],
+    ends: &mut [u16; ENDS],
+    marks: &mut [u8; EDGES],
+    syndrome: &mut [u8; VERTICES],
+    loss: &mut [u8; EDGES],
 ) -> Reading
-    requires { ⌜ Sized (now ends) (now marks) (now syndrome) (now loss) ⌝ }
+    requires { ⌜ Sized (buffersOf (now ends) (now marks) (now syndrome) (now loss)) ⌝ }
     requires { ⌜ ((v : ℕ) → getD (now syndrome) v 0 ≡ 0) ⌝ }
-    ensures { λ r. ⌜ ReadsInto (now (text .entry)) r (now (ends .exit)) (now (marks .exit)) (now (syndrome .exit)) (now (loss .exit)) ⌝ }
+    ensures { λ r. ⌜ ReadsInto (before text) r (buffersOf (after ends) (after marks) (after syndrome) (after loss)) ⌝ }
 {
     let mut lines = lines_of(text);
     let mut stage = Stage::Start;
@@ -54,7 +56,14 @@ fn read_lines(
     }
 }
 
-// Reads a text into the lent buffers and answers with both counts. It is read into arrays first, so that a refusal writes nothing.
+// How many vertices and edges are filled in.
+struct Filled {
+    vertices: usize,
+    edges: usize,
+}
+
+// Reads a text into the lent buffers and answers with both filled. It is read into arrays first, and then as many entries are copied as
+// were read, none where it is refused.
 pub fn read(
     text: &[u8],
     ends: &mut [u16],
@@ -62,9 +71,11 @@ pub fn read(
     syndrome: &mut [u8],
     loss: &mut [u8],
 ) -> Reading
-    ensures { λ r. ⌜ Reads (now (text .entry)) (now (ends .entry)) (now (marks .entry)) (now (syndrome .entry)) (now (loss .entry)) r (now (ends .exit)) (now (marks .exit)) (now (syndrome .exit)) (now (loss .exit)) ⌝ }
+    ensures { λ r.
+        ⌜ Reads (before text) (buffersOf (before ends) (before marks) (before syndrome) (before loss))
+        r (buffersOf (after ends) (after marks) (after syndrome) (after loss)) ⌝ }
 {
-    let fit = (ends.len() == 2 * EDGES)
+    let fit = (ends.len() == ENDS)
         & (marks.len() == EDGES)
         & (syndrome.len() == VERTICES)
         & (loss.len() == EDGES);
@@ -74,10 +85,10 @@ pub fn read(
     if TEXT < text.len() {
         return Reading::Refused(Refusal::TextLength);
     }
-    let mut new_ends = [0u16; 8192];
-    let mut new_marks = [0u8; 4096];
-    let mut new_syndrome = [0u8; 1024];
-    let mut new_loss = [0u8; 4096];
+    let mut new_ends = [0u16; ENDS];
+    let mut new_marks = [0u8; EDGES];
+    let mut new_syndrome = [0u8; VERTICES];
+    let mut new_loss = [0u8; EDGES];
     let reading = read_lines(
         text,
         &mut new_ends,
@@ -85,12 +96,16 @@ pub fn read(
         &mut new_syndrome,
         &mut new_loss,
     );
-    let Reading::Counts { vertices, edges } = reading else {
-        return reading;
+    let filled = match reading {
+        Reading::Counts { vertices, edges } => Filled { vertices, edges },
+        Reading::Refused(_) => Filled {
+            vertices: 0,
+            edges: 0,
+        },
     };
-    copy_numbers(&new_ends, 2 * edges, ends);
-    copy_bytes(&new_marks, edges, marks);
-    copy_bytes(&new_syndrome, vertices, syndrome);
-    copy_bytes(&new_loss, edges, loss);
+    copy_numbers(&new_ends, 2 * filled.edges, ends);
+    copy_bytes(&new_marks, filled.edges, marks);
+    copy_bytes(&new_syndrome, filled.vertices, syndrome);
+    copy_bytes(&new_loss, filled.edges, loss);
     reading
 }

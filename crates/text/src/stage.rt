@@ -1,12 +1,17 @@
 use crate::line::Line;
 use crate::order::may_stand;
 use crate::store::store;
+use model::limits::EDGES;
+use model::limits::ENDS;
 use model::limits::VERTICES;
 ghost use mathlib.Core.Path.{_≡_};
+ghost use Rattle.model.specs.Lent.{before, after};
+ghost use Rattle.model.specs.TextOutcomes.{buffersOf};
 ghost use Rattle.text.specs.Order.{meant};
 ghost use Rattle.text.specs.Stages.{verticesOf, begunWith, Within, Takes};
 
-// How far a text has been read: no line as yet; lines that make a sheet of so many vertices and so far so many edges, with the last of them; or a malformed line, which ends the reading.
+// How far a text has been read: no line as yet; lines that make a sheet of so many vertices and so far so many edges, with the last of
+// them; or a malformed line, which ends the reading.
 pub enum Stage {
     Start,
     Sheet {
@@ -55,13 +60,15 @@ fn begin(line: Line) -> Stage
 pub fn take_line(
     stage: Stage,
     line: Line,
-    ends: &mut [u16; 8192],
-    marks: &mut [u8; 4096],
-    syndrome: &mut [u8; 1024],
-    loss: &mut [u8; 4096],
+    ends: &mut [u16; ENDS],
+    marks: &mut [u8; EDGES],
+    syndrome: &mut [u8; VERTICES],
+    loss: &mut [u8; EDGES],
 ) -> Stage
     requires { ⌜ Within stage ⌝ }
-    ensures { λ r. ⌜ Takes stage line (now (ends .entry)) (now (marks .entry)) (now (syndrome .entry)) (now (loss .entry)) r (now (ends .exit)) (now (marks .exit)) (now (syndrome .exit)) (now (loss .exit)) ⌝ }
+    ensures { λ r.
+        ⌜ Takes stage line (buffersOf (before ends) (before marks) (before syndrome) (before loss))
+        r (buffersOf (after ends) (after marks) (after syndrome) (after loss)) ⌝ }
 {
     match stage {
         Stage::Start => begin(line),

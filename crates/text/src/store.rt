@@ -1,4 +1,10 @@
 use crate::line::Line;
+use model::limits::EDGES;
+use model::limits::ENDS;
+use model::limits::VERTICES;
+use model::numbers::Edge;
+ghost use Rattle.model.specs.Lent.{before, after};
+ghost use Rattle.model.specs.TextOutcomes.{buffersOf};
 ghost use Rattle.text.specs.Order.{meant};
 ghost use Rattle.text.specs.Scratch.{Storable, Stores};
 
@@ -6,13 +12,15 @@ ghost use Rattle.text.specs.Scratch.{Storable, Stores};
 pub fn store(
     line: Line,
     edges: u16,
-    ends: &mut [u16; 8192],
-    marks: &mut [u8; 4096],
-    syndrome: &mut [u8; 1024],
-    loss: &mut [u8; 4096],
+    ends: &mut [u16; ENDS],
+    marks: &mut [u8; EDGES],
+    syndrome: &mut [u8; VERTICES],
+    loss: &mut [u8; EDGES],
 ) -> u16
     requires { ⌜ Storable edges (meant line) ⌝ }
-    ensures { λ r. ⌜ Stores edges (meant line) (now (ends .entry)) (now (marks .entry)) (now (syndrome .entry)) (now (loss .entry)) r (now (ends .exit)) (now (marks .exit)) (now (syndrome .exit)) (now (loss .exit)) ⌝ }
+    ensures { λ r.
+        ⌜ Stores edges (meant line) (buffersOf (before ends) (before marks) (before syndrome) (before loss))
+        r (buffersOf (after ends) (after marks) (after syndrome) (after loss)) ⌝ }
 {
     match line {
         Line::Vertices(_) => edges,
@@ -21,7 +29,8 @@ pub fn store(
             second,
             mark,
         } => {
-            let e = edges as usize;
+            let edge = Edge(edges); // edges are numbered as they come
+            let e = edge.0 as usize;
             let i = 2 * e;
             ends[i] = first.0;
             ends[i + 1] = second.0;

@@ -1,39 +1,45 @@
-use crate::copy::copy_bytes;
 use crate::line::LETTER_S;
 use crate::line::LETTER_V;
 use crate::line::LETTER_X;
 use crate::printing::put_edge;
 use crate::printing::put_line;
 use crate::printing::put_listed;
-use board::lent::check_sheet;
+use board::copy::copy_bytes;
 use board::outcome::Check;
+use board::tests::check_sheet;
 use model::answers::Written;
+use model::ends::first_end;
+use model::ends::second_end;
+use model::limits::EDGES;
 use model::limits::TEXT;
+use model::limits::VERTICES;
+use model::numbers::Edge;
 use model::refusal::Refusal;
 ghost use mathlib.Core.Path.{_≡_};
 ghost use Prim.Native.Nat.{_+_, _*_, _≤_};
 ghost use lib.ListN.{length};
-ghost use Rattle.model.specs.Board.{boardOf, sheetOf};
+ghost use Rattle.model.specs.Lent.{before, after, sheetLent};
+ghost use Rattle.model.specs.Board.{boardOf, sheetOf, edgeLimit};
 ghost use Rattle.model.specs.TextOutcomes.{Writes};
 ghost use Rattle.text.specs.Printing.{Puts, edgesBytes, sheetBytes};
 
 // The longest text of any sheet: 7 bytes for `V`, 14 for an edge, 7 for a syndrome vertex and for a lost edge.
-const LONGEST: usize = 93191;
+const LONGEST: usize = 7 + 14 * EDGES + 7 * VERTICES + 7 * EDGES;
 
 // Puts an `E` line for each edge.
 fn put_edges(out: &mut [u8], at: usize, ends: &[u16], marks: &[u8]) -> usize
-    requires { ⌜ length (now ends) ≡ 2 * length (now marks) ⌝ }
+    requires { ⌜ (length (now ends) ≡ 2 * length (now marks)) × (length (now marks) ≤ edgeLimit) ⌝ }
     requires { ⌜ at + length (edgesBytes (now ends) (now marks) (length (now marks))) ≤ length (now out) ⌝ }
-    ensures { λ r. ⌜ Puts (edgesBytes (now (ends .entry)) (now (marks .entry)) (length (now (marks .entry)))) (now (out .entry)) at r (now (out .exit)) ⌝ }
+    ensures { λ r. ⌜ Puts (edgesBytes (before ends) (before marks) (length (before marks))) (before out) at r (after out) ⌝ }
 {
     let mut next = at;
     let mut e = 0;
     while e < marks.len() {
-        let i = 2 * e;
-        let first = ends[i] as usize;
-        let second = ends[i + 1] as usize;
-        let mark = marks[e] as usize;
-        next = put_edge(out, next, first, second, mark);
+        let number = e as u16;
+        let edge = Edge(number);
+        let first = first_end(ends, edge);
+        let second = second_end(ends, edge);
+        next = put_edge(out, next, first, second, marks[e]);
         e += 1;
     }
     next
@@ -48,9 +54,10 @@ fn put_sheet(
     loss: &[u8],
     out: &mut [u8],
 ) -> usize
-    requires { ⌜ length (now ends) ≡ 2 * length (now marks) ⌝ }
-    requires { ⌜ length (sheetBytes (sheetOf (boardOf vertices (now ends) (now marks)) (now syndrome) (now loss))) ≤ length (now out) ⌝ }
-    ensures { λ r. ⌜ Puts (sheetBytes (sheetOf (boardOf vertices (now (ends .entry)) (now (marks .entry))) (now (syndrome .entry)) (now (loss .entry)))) (now (out .entry)) 0 r (now (out .exit)) ⌝ }
+    requires { ⌜ (length (now ends) ≡ 2 * length (now marks)) × (length (now marks) ≤ edgeLimit) ⌝ }
+    requires { ⌜ length (sheetBytes (sheetOf (boardOf vertices (now ends) (now marks)) (now syndrome) (now loss)))
+        ≤ length (now out) ⌝ }
+    ensures { λ r. ⌜ Puts (sheetBytes (sheetLent vertices ends marks syndrome loss)) (before out) 0 r (after out) ⌝ }
 {
     let edges_at = put_line(out, 0, LETTER_V, vertices);
     let syndrome_at = put_edges(out, edges_at, ends, marks);
@@ -67,7 +74,7 @@ pub fn write(
     loss: &[u8],
     text: &mut [u8],
 ) -> Written
-    ensures { λ r. ⌜ Writes (sheetOf (boardOf vertices (now (ends .entry)) (now (marks .entry))) (now (syndrome .entry)) (now (loss .entry))) (now (text .entry)) r (now (text .exit)) ⌝ }
+    ensures { λ r. ⌜ Writes (sheetLent vertices ends marks syndrome loss) (before text) r (after text) ⌝ }
 {
     if let Check::Failed(refusal) = check_sheet(vertices, ends, marks, syndrome, loss, true) {
         return Written::Refused(refusal);

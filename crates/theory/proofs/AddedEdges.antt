@@ -104,21 +104,24 @@ range-in B a b m w =
 
 -- the edges of a valid board are in range
 pub fit-lines : (B : Board) → Valid B → (e : ℕ) → e < edges B → FitsLine (B .vertices) (edgeLine B e)
-fit-lines B w e h = (w .first-in-range e h, w .second-in-range e h, w .ends-differ e h, w .mark-in-range e h)
+fit-lines B w e h = (w .inside .first-in-range e h, w .inside .second-in-range e h, w .ends-differ e h, w .mark-in-range e h)
 
 -- a valid board stays valid
 pub plus-valid : (B : Board) (a b m : ℕ) → Valid B → Addable B a b m → Valid (plus B a b m)
 plus-valid B a b m w new =
-    let two = w .two-ends in
+    let two = w .inside .two-ends in
     let more = edges-plus B two a b m in
     let fit = each-plus B two a b m (FitsLine (B .vertices)) (fit-lines B w) (new .fits) in
     record {
       some-vertex = w .some-vertex;
-      vertex-limit = w .vertex-limit;
-      edge-limit = omega (arith, new .room);
-      two-ends = length-append (B .ends) (a ∷ b ∷ []) ∙ omega arith;
-      first-in-range = λ e h. fit e h .0;
-      second-in-range = λ e h. fit e h .1;
+      inside =
+          record {
+            vertex-limit = w .inside .vertex-limit;
+            edge-limit = omega (arith, new .room);
+            two-ends = length-append (B .ends) (a ∷ b ∷ []) ∙ omega arith;
+            first-in-range = λ e h. fit e h .0;
+            second-in-range = λ e h. fit e h .1;
+          };
       ends-differ = λ e h. fit e h .2;
       mark-in-range = λ e h. fit e h .3;
     }

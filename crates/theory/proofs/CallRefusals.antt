@@ -1,6 +1,7 @@
--- Document 01, "Numbers and places", of each call: "The smallest number that applies wins, then the smallest place." The numbers of the
--- rules rise in all calls but the torus builder, which tests its lengths "only once the side is in range". Outside the lists stand 10, which
--- decoding and the verdict give only where nothing of their lists applies, and 13, which the reader gives alike. Assumes nothing.
+-- Document 01, "Numbers and places", of each call: of all refusals that apply it gives the one with the smallest number, and of those with
+-- that number the one with the smallest place. The numbers of the rules rise in all calls but the torus builder, whose lengths come after
+-- its side. Outside the lists stand 10, which decoding and the verdict give only where nothing of their lists applies, and 13, which the
+-- reader gives alike. Assumes nothing.
 use Prim.Native.Nat.{ℕ, _*_, _≤_}
 use mathlib.Core.Path.{_≡_, refl, ap, _∙_}
 use mathlib.Core.Bool.{_&&_}
@@ -24,7 +25,7 @@ use Rattle.model.specs.Refusals.{Test, numberOf, noneAt, sized, lengthRule, sid
 use Rattle.model.specs.Outcomes.{answer, keyOrNone, decodeAnswer, judgedOrNone, verdictAnswer, distanceOf, distanceAnswer, torusAnswer}
 use Rattle.model.specs.Distance.{fewest}
 use Rattle.model.specs.Text.{refused, textOf, readText}
-use Rattle.model.specs.TextOutcomes.{readRules, readRefusal, readOutcome, counts, writeRules, writeRefusal, writeAnswer}
+use Rattle.model.specs.TextOutcomes.{Buffers, readRules, readRefusal, readOutcome, counts, writeRules, writeRefusal, writeAnswer}
 use Rattle.model.specs.Precedence.{Applies, here, there, NoneApplies, Decides, Smallest, AnswersSmallest}
 use Rattle.model.proofs.Contradiction.{zero-one}
 use Rattle.model.proofs.Xor.{and-left, and-right, not-false-true}
@@ -80,24 +81,24 @@ distance-answers B shown = answers-smallest (distance-numbers B shown) refl dist
 
 -- The reader
 
-pub read-smallest : (text ends marks syndrome loss : List ℕ) (r : Refusal)
-    → (readRefusal text ends marks syndrome loss ≡ some r) ↔ Smallest (readRules text ends marks syndrome loss) r
+pub read-smallest : (text : List ℕ) (old : Buffers) (r : Refusal)
+    → (readRefusal text old ≡ some r) ↔ Smallest (readRules text old) r
 unfolding readRefusal
-read-smallest text ends marks syndrome loss = smallest-exactly (read-numbers text ends marks syndrome loss) refl
+read-smallest text old = smallest-exactly (read-numbers text old) refl
 
-pub read-answers : (text ends marks syndrome loss : List ℕ) (q : Refusal) → Applies (readRules text ends marks syndrome loss) q
-    → AnswersSmallest (readRules text ends marks syndrome loss) reading.Refused (counts (readOutcome text ends marks syndrome loss))
+pub read-answers : (text : List ℕ) (old : Buffers) (q : Refusal) → Applies (readRules text old) q
+    → AnswersSmallest (readRules text old) reading.Refused (counts (readOutcome text old))
 unfolding readOutcome readRefusal
-read-answers text ends marks syndrome loss q a =
-    let w = answers-smallest (read-numbers text ends marks syndrome loss) refl refused (readText text) q a in
+read-answers text old q a =
+    let w = answers-smallest (read-numbers text old) refl refused (readText text) q a in
     record { refusal = w .refusal; smallest = w .smallest; answer = ap counts (w .answer) }
 
 -- Number 13 comes last.
-pub read-last : (text ends marks syndrome loss : List ℕ) (k : ℕ) → readOutcome text ends marks syndrome loss ≡ refused (MalformedLine k)
-    → NoneApplies (readRules text ends marks syndrome loss)
+pub read-last : (text : List ℕ) (old : Buffers) (k : ℕ) → readOutcome text old ≡ refused (MalformedLine k)
+    → NoneApplies (readRules text old)
 unfolding readOutcome readRefusal
-read-last text ends marks syndrome loss k =
-    other-number (read-numbers text ends marks syndrome loss) (MalformedLine k) refl refused (readText text) (λ q e. cc)
+read-last text old k =
+    other-number (read-numbers text old) (MalformedLine k) refl refused (readText text) (λ q e. cc)
 
 -- The writer
 

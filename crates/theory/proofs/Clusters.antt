@@ -12,8 +12,8 @@ use lib.ListN.{length, length-append}
 use lib.Dec.{eqb}
 use Rattle.model.specs.Sums.{Set, _⊕_, bit}
 use Rattle.model.specs.Board.{Board, edges, firstEnd, secondEnd}
-use Rattle.theory.proofs.Sums.{sumUpTo, sum-mono, sum-add, sum-zero, only, sum-only}
-use Rattle.theory.proofs.Lines.{Line, crosses}
+use Rattle.theory.proofs.Totals.{sumUpTo, sum-mono, sum-add, sum-zero, only, sum-only}
+use Rattle.theory.proofs.CrossedLines.{Line, crosses}
 use Rattle.theory.proofs.Walks.{Along, Walk, stop, step, append, odd-along-append, walkCrosses}
 use Rattle.theory.proofs.Potentials.{difference}
 

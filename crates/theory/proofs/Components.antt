@@ -12,11 +12,10 @@ use lib.ListN.{length, getD, length-map, List·getD-map}
 use lib.Seq.{ext-getD}
 use lib.Dec.{eqb, leb}
 use Rattle.model.specs.Sums.{Set}
-use Rattle.model.specs.Board.{Board, edges, firstEnd, secondEnd}
+use Rattle.model.specs.Board.{Board, Inside, edges, firstEnd, secondEnd}
 use Rattle.model.specs.Components.{label, merge, join, labelsUpTo, labels}
 use Rattle.model.proofs.SumLaws.{below-suc}
 use Rattle.model.proofs.ListLaws.{length-values, getD-values}
-use Rattle.theory.proofs.Syndromes.{InRange}
 use Rattle.theory.proofs.Connected.{Connected, alone, along, back, chain, connected-keeps, connected-mono, connected-below, connected-equal}
 
 -- One merge
@@ -141,7 +140,7 @@ module _ (B : Board) (F : Set) where
   label-below k v h = omega (arith, label-bound k v h)
 
   -- a vertex is connected to its label
-  pub label-connected : InRange B → (k : ℕ) → k ≤ edges B → (v : ℕ) → v < B .vertices → Connected B F k v (label (labelsUpTo B F k) v)
+  pub label-connected : Inside B → (k : ℕ) → k ≤ edges B → (v : ℕ) → v < B .vertices → Connected B F k v (label (labelsUpTo B F k) v)
   label-connected r zero below v h = rw (label-start v h) (alone v)
   label-connected r (suc e) below v h = go (λ u l. later (label-connected r e (omega arith) u l)) (F e) refl
     where
@@ -156,10 +155,10 @@ module _ (B : Board) (F : Set) where
           (moved (renamed-is (label (labelsUpTo B F e) (firstEnd B e)) (label (labelsUpTo B F e) (secondEnd B e)) (label (labelsUpTo B F e) v)))
         where
           first-own : Connected B F (suc e) (firstEnd B e) (label (labelsUpTo B F e) (firstEnd B e))
-          first-own = own (firstEnd B e) (r .first e below)
+          first-own = own (firstEnd B e) (r .first-in-range e below)
 
           second-own : Connected B F (suc e) (secondEnd B e) (label (labelsUpTo B F e) (secondEnd B e))
-          second-own = own (secondEnd B e) (r .second e below)
+          second-own = own (secondEnd B e) (r .second-in-range e below)
 
           across : Connected B F (suc e) (label (labelsUpTo B F e) (firstEnd B e)) (label (labelsUpTo B F e) (secondEnd B e))
           across = chain (back first-own) (chain (along e (le-refl _) q) second-own)
@@ -172,13 +171,13 @@ module _ (B : Board) (F : Set) where
           moved (from-right p q) = rw q (chain (own v h) (chain (connected-equal B F (suc e) p) (back across)))
 
   -- two vertices have one label exactly where they are connected
-  pub label-equal-connected : InRange B → (k : ℕ) → k ≤ edges B → (u v : ℕ) → u < B .vertices → v < B .vertices
+  pub label-equal-connected : Inside B → (k : ℕ) → k ≤ edges B → (u v : ℕ) → u < B .vertices → v < B .vertices
       → label (labelsUpTo B F k) u ≡ label (labelsUpTo B F k) v → Connected B F k u v
   label-equal-connected r k below u v hu hv p =
       chain (label-connected r k below u hu) (chain (connected-equal B F k p) (back (label-connected r k below v hv)))
 
   -- a label is its own label
-  pub label-own : InRange B → (k : ℕ) → k ≤ edges B → (v : ℕ) → v < B .vertices
+  pub label-own : Inside B → (k : ℕ) → k ≤ edges B → (v : ℕ) → v < B .vertices
       → label (labelsUpTo B F k) (label (labelsUpTo B F k) v) ≡ label (labelsUpTo B F k) v
   label-own r k below v h = sym (connected-label k (label-connected r k below v h))
 
@@ -202,7 +201,7 @@ module _ (B : Board) (F : Set) where
   unfolding labels
   connected-part c = connected-label B F (edges B) c
 
-  module _ (r : InRange B) where
+  module _ (r : Inside B) where
     pub part-connected : (u v : ℕ) → u < B .vertices → v < B .vertices → label (labels B F) u ≡ label (labels B F) v
         → Connected B F (edges B) u v
     unfolding labels

@@ -5,8 +5,7 @@ use mathlib.Core.Path.{_≡_, refl, sym, _∙_, subst}
 use mathlib.Core.Bool.{true}
 use mathlib.Core.Logic.{_⊎_, inl, inr}
 use Rattle.model.specs.Sums.{Set}
-use Rattle.model.specs.Board.{Board, edges, firstEnd, secondEnd}
-use Rattle.theory.proofs.Syndromes.{InRange}
+use Rattle.model.specs.Board.{Board, Inside, edges, firstEnd, secondEnd}
 
 -- u and v are connected by edges of F below k
 pub data Connected (B : Board) (F : Set) (k : ℕ) : ℕ → ℕ → Type 0 where
@@ -36,21 +35,21 @@ connected-through B F k G j each (back c) = back (connected-through B F k G j ea
 connected-through B F k G j each (chain c d) = chain (connected-through B F k G j each c) (connected-through B F k G j each d)
 
 -- every edge of F below k is an edge of G below j
-pub record Inside (F : Set) (k : ℕ) (G : Set) (j : ℕ) : Type 0 where
+pub record EdgesAmong (F : Set) (k : ℕ) (G : Set) (j : ℕ) : Type 0 where
   pub less : (e : ℕ) → e < k → F e ≡ true → e < j
   pub holds : (e : ℕ) → e < k → F e ≡ true → G e ≡ true
 
-pub connected-mono : (B : Board) (F : Set) (k : ℕ) (G : Set) (j : ℕ) → Inside F k G j → {u v : ℕ} → Connected B F k u v
+pub connected-mono : (B : Board) (F : Set) (k : ℕ) (G : Set) (j : ℕ) → EdgesAmong F k G j → {u v : ℕ} → Connected B F k u v
     → Connected B G j u v
 connected-mono B F k G j sub c = connected-through B F k G j (λ e h p. along e (sub .less e h p) (sub .holds e h p)) c
 
 -- a vertex is connected to vertices only
-pub connected-below : (B : Board) → InRange B → (F : Set) {u v : ℕ} → Connected B F (edges B) u v → u < B .vertices → v < B .vertices
+pub connected-below : (B : Board) → Inside B → (F : Set) {u v : ℕ} → Connected B F (edges B) u v → u < B .vertices → v < B .vertices
 connected-below B r F c = both c .0
   where
     both : {u v : ℕ} → Connected B F (edges B) u v → (u < B .vertices → v < B .vertices) × (v < B .vertices → u < B .vertices)
     both (alone v) = (λ h. h, λ h. h)
-    both (along e h p) = (λ l. r .second e h, λ l. r .first e h)
+    both (along e h p) = (λ l. r .second-in-range e h, λ l. r .first-in-range e h)
     both (back c) = (both c .1, both c .0)
     both (chain c d) = (λ h. both d .0 (both c .0 h), λ h. both c .1 (both d .1 h))
 

@@ -7,7 +7,7 @@ use mathlib.Core.List.{List}
 use borrow.Author.Tests.{eqb-true, eq-eqb, ne-eqb, not-true}
 use lib.Dec.{eqb}
 use Rattle.model.specs.Sums.{Set, _⊕_, ones, bytes}
-use Rattle.model.specs.Board.{Board, edges, firstEnd, secondEnd}
+use Rattle.model.specs.Board.{Board, Inside, edges, firstEnd, secondEnd}
 use Rattle.model.specs.Syndrome.{meets, syndrome, HasSyndrome}
 use Rattle.model.specs.Winding.{together}
 use Rattle.model.specs.Components.{label, labels, within}
@@ -16,10 +16,10 @@ use Rattle.model.specs.Forest.{forest}
 use Rattle.model.specs.Correction.{without, oddSide, correction}
 use Rattle.model.proofs.Xor.{xor-self, xor-comm, not-true-false, and-left, and-right, and-both}
 use Rattle.model.proofs.ListLaws.{ones-bytes}
-use Rattle.theory.proofs.Sums.{xor-through}
-use Rattle.theory.proofs.Parity.{odd-one}
+use Rattle.theory.proofs.Totals.{xor-through}
+use Rattle.theory.proofs.OddMembers.{odd-one}
 use Rattle.theory.proofs.GrowthRun.{NoneOdd}
-use Rattle.theory.proofs.Syndromes.{InRange, syndrome-empty, syndrome-edge, syndrome-together, has-syndrome-cong, cut-syndrome}
+use Rattle.theory.proofs.Syndromes.{syndrome-empty, syndrome-edge, syndrome-together, has-syndrome-cong, cut-syndrome}
 use Rattle.theory.proofs.Connected.{Connected, alone, along, back, chain}
 use Rattle.theory.proofs.Components.{connected-part, part-connected, labels-cong}
 use Rattle.theory.proofs.Forests.{Within, forest-acyclic}
@@ -56,7 +56,7 @@ link B G (chain {u} {v} {w} c d) = joined (link B G c) (link B G d)
         either e false q p = l .inside e p
 
 -- the forest without one of its edges does not connect that edge's ends
-cut-apart : (B : Board) → InRange B → (F : Set) (e : ℕ) → e < edges B → forest B F e ≡ true
+cut-apart : (B : Board) → Inside B → (F : Set) (e : ℕ) → e < edges B → forest B F e ≡ true
     → Connected B (without (forest B F) e) (edges B) (firstEnd B e) (secondEnd B e) → ⊥
 cut-apart B r F e h p c = true≢false (sym here ∙ forest-acyclic B r F (together (l .set) (eqb e)) inner closed e h)
   where
@@ -98,7 +98,7 @@ pub correction-in-forest : (B : Board) (F S : Set) → Within B (correction B F 
 correction-in-forest B F S = record { holds = λ e h p. and-left (forest B F e) _ (sym (correction-is B F S e) ∙ p) }
 
 -- a subset of the forest with the syndrome has edge e exactly where the side of its first end is odd: only e can cross the cut
-side-odd : (B : Board) → InRange B → (F D S : Set) → Within B D (forest B F) → HasSyndrome B D S → (e : ℕ) → e < edges B
+side-odd : (B : Board) → Inside B → (F D S : Set) → Within B D (forest B F) → HasSyndrome B D S → (e : ℕ) → e < edges B
     → forest B F e ≡ true
     → oddSide B (without (forest B F) e) S (firstEnd B e) ≡ D e
 unfolding oddSide odd
@@ -129,12 +129,12 @@ side-odd B r F D S sub has e h p =
         rw (
           eq-eqb (label l (firstEnd B e)) (label l (firstEnd B e)) refl,
           ne-eqb (label l (secondEnd B e)) (label l (firstEnd B e))
-              (λ q. cut-apart B r F e h p (part-connected B G r (firstEnd B e) (secondEnd B e) (r .first e h) (r .second e h) (sym q))),
+              (λ q. cut-apart B r F e h p (part-connected B G r (firstEnd B e) (secondEnd B e) (r .first-in-range e h) (r .second-in-range e h) (sym q))),
         )
         (and-true (D e))
 
 -- any subset of the forest with the syndrome is the correction
-pub correction-unique : (B : Board) → InRange B → (F D S : Set) → Within B D (forest B F) → HasSyndrome B D S → (e : ℕ) → e < edges B
+pub correction-unique : (B : Board) → Inside B → (F D S : Set) → Within B D (forest B F) → HasSyndrome B D S → (e : ℕ) → e < edges B
     → D e ≡ correction B F S e
 correction-unique B r F D S sub has e h = go (forest B F e) refl ∙ sym (correction-is B F S e)
   where
@@ -143,7 +143,7 @@ correction-unique B r F D S sub has e h = go (forest B F e) refl ∙ sym (correc
     go false p = rw p (not-true-false (D e) (λ q. false≢true (sym p ∙ sub .holds e h q)))
 
 -- where no part is odd, the correction has the syndrome
-pub correction-has-syndrome : (B : Board) → InRange B → (F S : Set) → NoneOdd B (labels B F) S → HasSyndrome B (correction B F S) S
+pub correction-has-syndrome : (B : Board) → Inside B → (F S : Set) → NoneOdd B (labels B F) S → HasSyndrome B (correction B F S) S
 correction-has-syndrome B r F S even =
     let w = peeled B r F S even in
     has-syndrome-cong B (correction B F S) (w .set) S

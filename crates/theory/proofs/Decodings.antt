@@ -7,7 +7,7 @@ use mathlib.Core.List.{List}
 use mathlib.Core.Option.{none, some}
 use Rattle.model.specs.declared.answers.Decoded.the-variants.{Key, Refused}
 use Rattle.model.specs.Sums.{ones}
-use Rattle.model.specs.Board.{Sheet}
+use Rattle.model.specs.Board.{Inside, Sheet}
 use Rattle.model.specs.Syndrome.{HasSyndrome}
 use Rattle.model.specs.Winding.{size}
 use Rattle.model.specs.Growth.{full, clusters}
@@ -16,7 +16,6 @@ use Rattle.model.specs.Decoding.{smallestOdd, growths, supports, corrected}
 use Rattle.model.specs.Refusals.{noneAt, decodeRefusal}
 use Rattle.model.specs.Outcomes.{keyOrNone, decodeAnswer}
 use Rattle.theory.proofs.GrowthRun.{Reached, NoneOdd, grown-ends}
-use Rattle.theory.proofs.Syndromes.{InRange}
 use Rattle.theory.proofs.Forests.{Within, forest-inside}
 use Rattle.theory.proofs.Corrections.{correction-in-forest, correction-has-syndrome}
 use Rattle.theory.proofs.GrowthBound.{growth-ends}
@@ -52,12 +51,12 @@ pub corrected-full : (X : Sheet) → Within (X .board) (corrected X) (full (supp
 corrected-full X = record { holds = λ e h p. forest-inside (X .board) (full (supports X)) e (corrected-in-forest X .holds e h p) }
 
 -- no cluster is odd in the end
-pub key-even : (X : Sheet) → InRange (X .board) → smallestOdd (X .board) (ones (X .syndrome)) ≡ none
+pub key-even : (X : Sheet) → Inside (X .board) → smallestOdd (X .board) (ones (X .syndrome)) ≡ none
     → NoneOdd (X .board) (clusters (X .board) (supports X)) (ones (X .syndrome))
 unfolding supports
 key-even X r p = growth-ends (X .board) r (ones (X .syndrome)) (ones (X .loss)) p
 
-pub corrected-has-syndrome : (X : Sheet) → InRange (X .board) → smallestOdd (X .board) (ones (X .syndrome)) ≡ none
+pub corrected-has-syndrome : (X : Sheet) → Inside (X .board) → smallestOdd (X .board) (ones (X .syndrome)) ≡ none
     → HasSyndrome (X .board) (corrected X) (ones (X .syndrome))
 unfolding corrected clusters
 corrected-has-syndrome X r p = correction-has-syndrome (X .board) r (full (supports X)) (ones (X .syndrome)) (key-even X r p)

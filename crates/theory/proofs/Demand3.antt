@@ -10,7 +10,7 @@ use Rattle.model.specs.declared.refusal.Refusal.the-variants.{NoCorrection}
 use Rattle.model.specs.declared.answers.Decoded.{Decoded}
 use Rattle.model.specs.declared.answers.Decoded.the-variants.{Key, Refused}
 use Rattle.model.specs.Sums.{Set, ones, bytes}
-use Rattle.model.specs.Board.{Board, Sheet, ValidSheet, edges}
+use Rattle.model.specs.Board.{Board, Inside, Sheet, ValidSheet, edges}
 use Rattle.model.specs.Syndrome.{HasSyndrome}
 use Rattle.model.specs.Winding.{size}
 use Rattle.model.specs.Growth.{full}
@@ -21,7 +21,7 @@ use Rattle.model.specs.Demand3.{Bounded, Unmet, Demand3}
 use Rattle.model.proofs.Contradiction.{zero-one}
 use Rattle.model.proofs.ListLaws.{ones-bytes}
 use Rattle.theory.proofs.GrowthRun.{Reached}
-use Rattle.theory.proofs.Syndromes.{InRange, valid-in-range, has-syndrome-cong}
+use Rattle.theory.proofs.Syndromes.{has-syndrome-cong}
 use Rattle.theory.proofs.Forests.{Within}
 use Rattle.theory.proofs.NoCorrection.{no-correction-unmet}
 use Rattle.theory.proofs.GrowthBound.{growth-bound}
@@ -29,7 +29,7 @@ use Rattle.theory.proofs.NotWinding.{not-winding}
 use Rattle.theory.proofs.Decodings.{passed-answer, none-answer, key-answer, key-reached, corrected-full, corrected-has-syndrome}
 
 -- the bounds, for any correction in the full edges that growths of odd clusters reached
-pub reached-bounded : (B : Board) → InRange B → (S lost C : Set) {s : List ℕ} {g : ℕ} → Reached B S lost s g → Within B C (full s)
+pub reached-bounded : (B : Board) → Inside B → (S lost C : Set) {s : List ℕ} {g : ℕ} → Reached B S lost s g → Within B C (full s)
     → HasSyndrome B C S
     → (E : Set) → HasSyndrome B E S → Bounded B lost C g E
 reached-bounded B r S lost C c sub has E hasE =
@@ -67,8 +67,8 @@ pub demand3 : (X : Sheet) → ValidSheet X → (r : Decoded) (C : Set) → r ≡
     → Demand3 (X .board) (ones (X .syndrome)) (ones (X .loss)) r C
 demand3 X valid r C result is = go (smallestOdd (X .board) (ones (X .syndrome))) refl
   where
-    range : InRange (X .board)
-    range = valid-in-range (valid .board)
+    range : Inside (X .board)
+    range = valid .board .inside
 
     go : (o : Option ℕ) → smallestOdd (X .board) (ones (X .syndrome)) ≡ o → Demand3 (X .board) (ones (X .syndrome)) (ones (X .loss)) r C
     go (some v) p =

@@ -11,13 +11,12 @@ use borrow.Author.Tests.{leb-true, leb-false, eqb-true, eqb-false, ne-eqb}
 use lib.ListN.{length}
 use lib.Dec.{eqb, leb}
 use Rattle.model.specs.Sums.{Set}
-use Rattle.model.specs.Board.{Board, edges}
+use Rattle.model.specs.Board.{Board, Inside, edges}
 use Rattle.model.specs.Winding.{winds, size}
 use Rattle.model.specs.Distance.{lesser, with, fewestFrom, fewest}
 use Rattle.model.proofs.Xor.{not-true-false}
 use Rattle.model.proofs.SumLaws.{count-cong}
-use Rattle.theory.proofs.Syndromes.{InRange}
-use Rattle.theory.proofs.Lines.{Line, winds-cong}
+use Rattle.theory.proofs.CrossedLines.{Line, winds-cong}
 use Rattle.theory.proofs.Walks.{Walk, walkCrosses, passedOddly}
 use Rattle.theory.proofs.ShortLoops.{passed-size, walk-winds, ShortWalksUnmarked}
 use Rattle.theory.proofs.LoopBound.{walks-above-loops}
@@ -154,7 +153,7 @@ pub record Shortest (B : Board) (l : List ℕ) : Type 0 where
   pub count : size B (passedOddly l) ≡ length l
   pub distance : fewest B ≡ some (length l)
 
-pub shortest-walk : (B : Board) → InRange B → (u k : ℕ) (l : List ℕ) (x : Line) → Walk B u l u → walkCrosses B x l ≡ true
+pub shortest-walk : (B : Board) → Inside B → (u k : ℕ) (l : List ℕ) (x : Line) → Walk B u l u → walkCrosses B x l ≡ true
     → length l ≡ suc k → ShortWalksUnmarked B k → Shortest B l
 shortest-walk B r u k l x p c long short =
     let above = walks-above-loops B r k short .above in

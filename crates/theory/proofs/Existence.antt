@@ -9,7 +9,7 @@ use native.Mathlib.Omega.{arith}
 use borrow.Author.Tests.{eqb-true, eqb-false, eq-eqb, ne-eqb}
 use lib.Dec.{eqb}
 use Rattle.model.specs.Sums.{Set, _⊕_}
-use Rattle.model.specs.Board.{Board, edges, firstEnd, secondEnd}
+use Rattle.model.specs.Board.{Board, Inside, edges, firstEnd, secondEnd}
 use Rattle.model.specs.Syndrome.{meets, HasSyndrome}
 use Rattle.model.specs.Winding.{together}
 use Rattle.model.specs.Components.{label, labelsUpTo, labels, within}
@@ -18,8 +18,8 @@ use Rattle.model.specs.Forest.{forest}
 use Rattle.model.proofs.Xor.{xor-self, xor-comm, xor-false, and-xor, xor-and, and-right, xor-twice}
 use Rattle.model.proofs.SumLaws.{odd-cong, odd-xor, odd-false}
 use Rattle.theory.proofs.GrowthRun.{NoneOdd}
-use Rattle.theory.proofs.Parity.{odd-one}
-use Rattle.theory.proofs.Syndromes.{InRange, syndrome-empty, syndrome-together, syndrome-edge, ends-parity}
+use Rattle.theory.proofs.OddMembers.{odd-one}
+use Rattle.theory.proofs.Syndromes.{syndrome-empty, syndrome-together, syndrome-edge, ends-parity}
 use Rattle.theory.proofs.Components.{renamed, label-joined, label-passed, label-start, label-below}
 use Rattle.theory.proofs.Forests.{forest-parted, forest-labels}
 
@@ -33,7 +33,7 @@ odd-together B l S R a =
     ∙ odd-xor (B .vertices) (λ v. S v && within l a v) (λ v. R v && within l a v)
 
 -- how the two ends of edge e count in part a, where p holds
-odd-ends : (B : Board) → InRange B → (l : List ℕ) (p : Bool) (e a : ℕ) → e < edges B
+odd-ends : (B : Board) → Inside B → (l : List ℕ) (p : Bool) (e a : ℕ) → e < edges B
     → odd B l (λ v. p && meets B e v) a ≡ (p && (within l a (firstEnd B e) ⊕ within l a (secondEnd B e)))
 unfolding odd
 odd-ends B r l false e a h = odd-false (B .vertices)
@@ -92,7 +92,7 @@ flipped B p e S v = S v ⊕ (p && meets B e v)
 
 -- Edge e joins two parts. Where S is even on every part after it, S flipped at its ends is even on every part before it, if it is flipped
 -- exactly where the part of its first end is odd.
-split-even : (B : Board) → InRange B → (S : Set) (l m : List ℕ) (e : ℕ) → e < edges B
+split-even : (B : Board) → Inside B → (S : Set) (l m : List ℕ) (e : ℕ) → e < edges B
     → (apart : label l (firstEnd B e) ≡ label l (secondEnd B e) → ⊥)
     → ((v : ℕ) → label m v ≡ renamed (label l (firstEnd B e)) (label l (secondEnd B e)) (label l v))
     → label l (firstEnd B e) < B .vertices → label l (secondEnd B e) < B .vertices
@@ -161,7 +161,7 @@ with-edge B F p e h S taken w =
     members i true q s = (omega (arith, w .less i q), w .inside i q)
     members i false q s = (omega (arith, last i s), subst (λ j. forest B F j ≡ true) (last i s) taken)
 
-peel : (B : Board) → InRange B → (F : Set) (k : ℕ) → k ≤ edges B → (S : Set) → NoneOdd B (labelsUpTo B (forest B F) k) S → Peeled B F k S
+peel : (B : Board) → Inside B → (F : Set) (k : ℕ) → k ≤ edges B → (S : Set) → NoneOdd B (labelsUpTo B (forest B F) k) S → Peeled B F k S
 peel B r F zero h S even =
     record {
       set = λ e. false;
@@ -182,12 +182,12 @@ peel B r F (suc e) h S even = go (forest B F e) refl (λ S even. peel B r F e (o
         with-edge B F (odd B l S (label l (firstEnd B e))) e h S p
         (earlier (flipped B (odd B l S (label l (firstEnd B e))) e S)
         (split-even B r S l (labelsUpTo B (forest B F) (suc e)) e h (apart p) (λ v. label-joined B (forest B F) e v p)
-        (label-below B (forest B F) e (firstEnd B e) (r .first e h)) (label-below B (forest B F) e (secondEnd B e) (r .second e h)) even))
+        (label-below B (forest B F) e (firstEnd B e) (r .first-in-range e h)) (label-below B (forest B F) e (secondEnd B e) (r .second-in-range e h)) even))
     go false p earlier =
         let w = earlier S (subst (λ m. NoneOdd B m S) (label-passed B (forest B F) e p) even) in
         record { set = w .set; less = λ i q. omega (arith, w .less i q); inside = w .inside; has = w .has }
 
 -- where no part of F is odd, some subset of its forest has the syndrome
-pub peeled : (B : Board) → InRange B → (F S : Set) → NoneOdd B (labels B F) S → Peeled B F (edges B) S
+pub peeled : (B : Board) → Inside B → (F S : Set) → NoneOdd B (labels B F) S → Peeled B F (edges B) S
 unfolding labels
 peeled B r F S even = peel B r F (edges B) (le-refl _) S (subst (λ l. NoneOdd B l S) (sym (forest-labels B F (edges B))) even)

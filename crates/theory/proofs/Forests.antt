@@ -11,14 +11,14 @@ use native.Mathlib.Omega.{arith}
 use borrow.Author.Tests.{eqb-true, eq-eqb, ne-eqb, not-true, not-false, ltb-true, ltb-false}
 use lib.Dec.{eqb, ltb}
 use Rattle.model.specs.Sums.{Set, _⊕_, oddUpTo}
-use Rattle.model.specs.Board.{Board, edges, firstEnd, secondEnd}
+use Rattle.model.specs.Board.{Board, Inside, edges, firstEnd, secondEnd}
 use Rattle.model.specs.Syndrome.{syndrome, HasSyndrome}
 use Rattle.model.specs.Components.{label, merge, join, labelsUpTo, within}
 use Rattle.model.specs.Forest.{parted, takenUpTo, forest}
 use Rattle.model.proofs.Xor.{xor-self, not-true-false, and-left, and-right, and-both}
 use Rattle.model.proofs.SumLaws.{odd-none}
-use Rattle.theory.proofs.Parity.{odd-one}
-use Rattle.theory.proofs.Syndromes.{InRange, cut}
+use Rattle.theory.proofs.OddMembers.{odd-one}
+use Rattle.theory.proofs.Syndromes.{cut}
 use Rattle.theory.proofs.Connected.{Connected}
 use Rattle.theory.proofs.Components.{edge-label, connected-label, label-equal-connected}
 
@@ -69,13 +69,13 @@ module _ (B : Board) (F : Set) where
   pub forest-apart : (e : ℕ) → forest B F e ≡ true → Connected B F e (firstEnd B e) (secondEnd B e) → ⊥
   forest-apart e p c = forest-parted e p (connected-label B F e c)
 
-  pub forest-takes : InRange B → (e : ℕ) → e < edges B → F e ≡ true → (Connected B F e (firstEnd B e) (secondEnd B e) → ⊥)
+  pub forest-takes : Inside B → (e : ℕ) → e < edges B → F e ≡ true → (Connected B F e (firstEnd B e) (secondEnd B e) → ⊥)
       → forest B F e ≡ true
   forest-takes r e h p apart =
       forest-is e ∙ and-both _ _ p (ap not (ne-eqb _ _ (λ q. apart (connected q))))
     where
       connected : label (labelsUpTo B F e) (firstEnd B e) ≡ label (labelsUpTo B F e) (secondEnd B e) → Connected B F e (firstEnd B e) (secondEnd B e)
-      connected = label-equal-connected B F r e (le-of-lt h) (firstEnd B e) (secondEnd B e) (r .first e h) (r .second e h)
+      connected = label-equal-connected B F r e (le-of-lt h) (firstEnd B e) (secondEnd B e) (r .first-in-range e h) (r .second-in-range e h)
 
 -- Closed sets
 
@@ -84,7 +84,7 @@ pub record Within (B : Board) (D G : Set) : Type 0 where
   pub holds : (e : ℕ) → e < edges B → D e ≡ true → G e ≡ true
 
 -- The largest edge of a closed set joins two vertices that smaller edges connect: across the part of its first end, only it could cross.
-pub cycle-closes : (B : Board) → InRange B → (D F : Set) (e : ℕ) → HasSyndrome B D (λ v. false) → e < edges B → D e ≡ true
+pub cycle-closes : (B : Board) → Inside B → (D F : Set) (e : ℕ) → HasSyndrome B D (λ v. false) → e < edges B → D e ≡ true
     → ((i : ℕ) → i < e → D i ≡ true → F i ≡ true) → ((i : ℕ) → e < i → i < edges B → D i ≡ false)
     → label (labelsUpTo B F e) (firstEnd B e) ≡ label (labelsUpTo B F e) (secondEnd B e)
 cycle-closes B r D F e closed h here below above = sym (eqb-true _ _ (not-false _ (sym crosses ∙ sym (cut B r A D) ∙ none)))
@@ -112,7 +112,7 @@ cycle-closes B r D F e closed h here below above = sym (eqb-true _ _ (not-false 
         ∙ rw (here, eq-eqb (label l (firstEnd B e)) (label l (firstEnd B e)) refl)
 
 -- Acyclic: a closed subset of the forest is empty.
-pub forest-acyclic : (B : Board) → InRange B → (F D : Set) → Within B D (forest B F) → HasSyndrome B D (λ v. false) → (e : ℕ) → e < edges B
+pub forest-acyclic : (B : Board) → Inside B → (F D : Set) → Within B D (forest B F) → HasSyndrome B D (λ v. false) → (e : ℕ) → e < edges B
     → D e ≡ false
 forest-acyclic B r F D sub closed e h = from (edges B) 0 (omega arith) e (omega arith) h
   where

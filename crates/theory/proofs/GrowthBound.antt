@@ -13,7 +13,7 @@ use borrow.Author.Tests.{eqb-false}
 use lib.ListN.{getD}
 use lib.Dec.{eqb}
 use Rattle.model.specs.Sums.{Set, _⊕_, bit, countUpTo}
-use Rattle.model.specs.Board.{Board, edges, firstEnd, secondEnd}
+use Rattle.model.specs.Board.{Board, Inside, edges, firstEnd, secondEnd}
 use Rattle.model.specs.Syndrome.{HasSyndrome}
 use Rattle.model.specs.Winding.{size}
 use Rattle.model.specs.Components.{within}
@@ -23,10 +23,10 @@ use Rattle.model.specs.Decoding.{smallestOdd}
 use Rattle.model.specs.Demand3.{keptEdges}
 use Rattle.model.proofs.Xor.{equal-xor, not-true-false, and-left, and-right, and-both}
 use Rattle.model.proofs.SumLaws.{below-suc, count-bound, Some}
-use Rattle.theory.proofs.Parity.{odd-found}
-use Rattle.theory.proofs.Sums.{sumUpTo, sum-mono}
+use Rattle.theory.proofs.OddMembers.{odd-found}
+use Rattle.theory.proofs.Totals.{sumUpTo, sum-mono}
 use Rattle.theory.proofs.GrowthRun.{OddPart, NoneOdd, Reached, begin, after, grown-ends}
-use Rattle.theory.proofs.Syndromes.{InRange, cut-syndrome}
+use Rattle.theory.proofs.Syndromes.{cut-syndrome}
 use Rattle.theory.proofs.Connected.{along}
 use Rattle.theory.proofs.Components.{connected-part}
 use Rattle.theory.proofs.NoCorrection.{some-correction}
@@ -61,7 +61,7 @@ paid : Board → Set → Set → List ℕ → ℕ
 paid B lost E s = sumUpTo (edges B) (λ e. cond (kept lost E e) (getD s e 0) 0)
 
 -- an odd cluster is left by some edge of E, which is not full
-crossing-edge : (B : Board) → InRange B → (S E : Set) → HasSyndrome B E S → (s : List ℕ) (a : ℕ) → OddPart B (clusters B s) S a
+crossing-edge : (B : Board) → Inside B → (S E : Set) → HasSyndrome B E S → (s : List ℕ) (a : ℕ) → OddPart B (clusters B s) S a
     → Some (edges B) (λ e. E e && (within (clusters B s) a (firstEnd B e) ⊕ within (clusters B s) a (secondEnd B e)))
 unfolding odd
 crossing-edge B r S E has s a o =
@@ -75,7 +75,7 @@ crossing-open B s a e h p =
     not-true-false (full s e) (λ q. true≢false (sym p ∙ equal-xor _ _ (ap (λ x. eqb x a) (connected-part B (full s) (along e h q)))))
 
 -- so a growth of an odd cluster raises what E's kept edges have
-paid-rises : (B : Board) → InRange B → (S lost E : Set) → HasSyndrome B E S → (s : List ℕ) → Supports B lost s → (a : ℕ)
+paid-rises : (B : Board) → Inside B → (S lost E : Set) → HasSyndrome B E S → (s : List ℕ) → Supports B lost s → (a : ℕ)
     → OddPart B (clusters B s) S a
     → paid B lost E s < paid B lost E (grow B s (clusters B s) a)
 unfolding paid
@@ -121,7 +121,7 @@ paid-rises B r S lost E has s w a o =
 
 -- The bounds
 
-module _ (B : Board) (r : InRange B) (S lost E : Set) (has : HasSyndrome B E S) where
+module _ (B : Board) (r : Inside B) (S lost E : Set) (has : HasSyndrome B E S) where
   -- after g growths E's kept edges have at least g half-edges
   paid-enough : {s : List ℕ} {g : ℕ} → Reached B S lost s g → g ≤ paid B lost E s
   paid-enough begin = omega arith
@@ -154,7 +154,7 @@ module _ (B : Board) (r : InRange B) (S lost E : Set) (has : HasSyndrome B E S) 
 
 -- Where there is a correction, growth ends
 
-module _ (B : Board) (r : InRange B) (S lost : Set) (none-odd : smallestOdd B S ≡ none) where
+module _ (B : Board) (r : Inside B) (S lost : Set) (none-odd : smallestOdd B S ≡ none) where
   -- at most two growths for each edge
   pub growth-limit : {s : List ℕ} {g : ℕ} → Reached B S lost s g → g ≤ 2 * edges B
   growth-limit c =

@@ -2,19 +2,23 @@
 -- odd or where its steps are used up. Nothing here rests on which odd cluster is chosen.
 -- Assumes nothing.
 use Prim.Native.Nat.{ℕ, zero, suc, _+_, _*_, _<_}
-use mathlib.Core.Path.{_≡_, refl, subst}
+use mathlib.Core.Path.{_≡_, refl, sym, ap, _∙_, subst}
 use mathlib.Core.Bool.{Bool, true, false, cond, _&&_}
 use mathlib.Core.Logic.{_⊎_, inl, inr}
 use mathlib.Core.List.{List}
 use mathlib.Core.Option.{Option, none, some}
 use native.Mathlib.Nat.{le-refl, not-suc-le-zero}
 use native.Mathlib.Omega.{arith}
+use borrow.Author.Tests.{eqb-true}
 use lib.Dec.{ltb}
 use Rattle.model.specs.Sums.{Set}
-use Rattle.model.specs.Board.{Board, edges}
+use Rattle.model.specs.Board.{Board, Inside, edges}
+use Rattle.model.specs.Components.{label, labels, within}
 use Rattle.model.specs.Growth.{start, clusters, odd, boundary, better, choiceUpTo, choice, grow, Grown, chosen, growFrom, grown}
-use Rattle.model.proofs.Xor.{and-left}
+use Rattle.model.proofs.Xor.{and-left, and-right}
 use Rattle.model.proofs.SumLaws.{below-suc}
+use Rattle.theory.proofs.OddMembers.{odd-found}
+use Rattle.theory.proofs.Components.{part-own}
 
 -- The choice
 
@@ -46,6 +50,14 @@ choice-fair B s l S (suc k) = go (choiceUpTo B s l S k) (choice-fair B s l S k) 
     go none f true q = rw q (le-refl _, q)
     go none f false q = rw q (λ a h. below-suc k a h (f a) (λ e. rw e q))
     go (some c) f t q = taken c _ refl f
+
+-- an odd cluster is named by its label
+pub odd-named : (B : Board) (F S : Set) → Inside B → (a : ℕ) → OddPart B (labels B F) S a → label (labels B F) a ≡ a
+unfolding odd
+odd-named B F S r a o =
+    let x = odd-found (B .vertices) (λ v. S v && within (labels B F) a v) (o .is-odd) in
+    let q : label (labels B F) (x .at) ≡ a = eqb-true _ _ (and-right (S (x .at)) _ (x .holds)) in
+    ap (label (labels B F)) (sym q) ∙ part-own B F r (x .at) (x .less) ∙ q
 
 -- what is chosen is odd
 pub choice-odd : (B : Board) (s l : List ℕ) (S : Set) (a : ℕ) → choice B s l S ≡ some a → OddPart B l S a

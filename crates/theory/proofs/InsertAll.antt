@@ -5,10 +5,9 @@ use mathlib.Core.Bool.{Bool, true, false, false≢true}
 use native.Mathlib.Nat.{le-refl, not-suc-le-zero, mul-add}
 use native.Mathlib.Omega.{arith}
 use Rattle.model.specs.Sums.{Set, bit, countUpTo}
-use Rattle.model.specs.Board.{Board, edges, firstEnd, secondEnd}
+use Rattle.model.specs.Board.{Board, Inside, edges, firstEnd, secondEnd}
 use Rattle.model.specs.Winding.{size}
 use Rattle.model.proofs.SumLaws.{below-suc}
-use Rattle.theory.proofs.Syndromes.{InRange}
 use Rattle.theory.proofs.ShortLoops.{ShortWalksUnmarked}
 use Rattle.theory.proofs.Clusters.{Clustering, Settled, total, Balanced, apart, apart-balanced, total-zero}
 use Rattle.theory.proofs.Insertion.{Keeps, insert}
@@ -31,7 +30,7 @@ price : (d k : ℕ) (G : Set) → d * countUpTo (suc k) G ≡ d * countUpTo k G 
 unfolding countUpTo
 price d k G = mul-add d (countUpTo k G) (bit (G k))
 
-pub insert-up-to : (B : Board) → InRange B → (K : Clustering) (reach credit : ℕ → ℕ) (T d : ℕ) (G : Set) → ShortWalksUnmarked B T
+pub insert-up-to : (B : Board) → Inside B → (K : Clustering) (reach credit : ℕ → ℕ) (T d : ℕ) (G : Set) → ShortWalksUnmarked B T
     → Balanced B K reach credit → Reaches B reach d G → (k : ℕ) → k ≤ edges B
     → total B credit + d * countUpTo k G ≤ T → InsertedUpTo B K reach credit d G k
 insert-up-to B r K reach credit T d G short b far zero h fits =
@@ -70,7 +69,7 @@ insert-up-to B r K reach credit T d G short b far (suc k) h fits =
         }
 
 -- Insertion of the edges of G.
-pub insert-all : (B : Board) → InRange B → (K : Clustering) (reach credit : ℕ → ℕ) (T d : ℕ) (G : Set) → ShortWalksUnmarked B T
+pub insert-all : (B : Board) → Inside B → (K : Clustering) (reach credit : ℕ → ℕ) (T d : ℕ) (G : Set) → ShortWalksUnmarked B T
     → Balanced B K reach credit → Reaches B reach d G → total B credit + d * size B G ≤ T → InsertedUpTo B K reach credit d G (edges B)
 insert-all B r K reach credit T d G short b far fits = insert-up-to B r K reach credit T d G short b far (edges B) (le-refl _) fits
 
@@ -79,7 +78,7 @@ pub reaches-for-one : (B : Board) (reach : ℕ → ℕ) (G : Set) → Reaches B 
 reaches-for-one B reach G = record { enough = λ e h p. omega arith }
 
 -- Insertion of the edges of G, each for 1, from clusters of one vertex each.
-pub insert-first : (B : Board) → InRange B → (T : ℕ) (G : Set) → ShortWalksUnmarked B T → size B G ≤ T
+pub insert-first : (B : Board) → Inside B → (T : ℕ) (G : Set) → ShortWalksUnmarked B T → size B G ≤ T
     → InsertedUpTo B apart (λ v. 0) (λ v. 0) 1 G (edges B)
 insert-first B r T G short few =
     insert-all B r apart (λ v. 0) (λ v. 0) T 1 G short (apart-balanced B) (reaches-for-one B (λ v. 0) G) (omega (arith, total-zero B))

@@ -10,11 +10,10 @@ use borrow.Author.Tests.{eqb-true, eqb-false, eq-eqb, ne-eqb}
 use lib.ListN.{length}
 use lib.Dec.{eqb}
 use Rattle.model.specs.Sums.{Set, _⊕_}
-use Rattle.model.specs.Board.{Board, edges, firstEnd, secondEnd}
+use Rattle.model.specs.Board.{Board, Inside, edges, firstEnd, secondEnd}
 use Rattle.model.proofs.Xor.{xor-false, xor-assoc, xor-swap, xor-equal, equal-xor}
-use Rattle.theory.proofs.Sums.{sum-mono, sum-add, xor-through, xor-cancel}
-use Rattle.theory.proofs.Syndromes.{InRange}
-use Rattle.theory.proofs.Lines.{Line, crosses}
+use Rattle.theory.proofs.Totals.{sum-mono, sum-add, xor-through, xor-cancel}
+use Rattle.theory.proofs.CrossedLines.{Line, crosses}
 use Rattle.theory.proofs.Walks.{Along, forth, back, step}
 use Rattle.theory.proofs.ShortLoops.{along-differs, ShortWalksUnmarked}
 use Rattle.theory.proofs.Potentials.{difference}
@@ -34,13 +33,13 @@ pub record Inserted (B : Board) (K : Clustering) (reach credit : ℕ → ℕ) (d
   pub settles : Settled B clustering e
 
 -- Ends in one cluster: the walk between them and e close up. That closed walk is short, so it is unmarked, and the potentials fit e.
-settled-inside : (B : Board) → InRange B → (K : Clustering) (reach credit : ℕ → ℕ) (T d e : ℕ) → ShortWalksUnmarked B T
+settled-inside : (B : Board) → Inside B → (K : Clustering) (reach credit : ℕ → ℕ) (T d e : ℕ) → ShortWalksUnmarked B T
     → Balanced B K reach credit → e < edges B → 2 ≤ 2 * d + reach (firstEnd B e) + reach (secondEnd B e) → total B credit + d ≤ T
     → K .cluster (firstEnd B e) ≡ K .cluster (secondEnd B e) → Settled B K e
 settled-inside B r K reach credit T d e short b h enough fits same =
-    let p = b .paid (firstEnd B e) (secondEnd B e) (r .first e h) (r .second e h) same in
+    let p = b .paid (firstEnd B e) (secondEnd B e) (r .first-in-range e h) (r .second-in-range e h) same in
     let few : suc (length (p .route)) ≤ T = omega (arith, worth-bound B K credit (K .cluster (firstEnd B e)), p .short) in
-    let around = short .unmarked (secondEnd B e) (e ∷ p .route) (r .second e h) (step h (back refl refl) (p .walk)) few in
+    let around = short .unmarked (secondEnd B e) (e ∷ p .route) (r .second-in-range e h) (step h (back refl refl) (p .walk)) few in
     record { inside = same; fits = λ x. xor-equal (crosses B x e) _ (around x) ∙ p .crossing x }
 
 -- Ends in two clusters, the near and the far one: these become one, and on the far one the potentials are shifted to fit e.
@@ -132,7 +131,7 @@ module _ (B : Board) (K : Clustering) (e : ℕ) where
         at v false q = le-refl _
 
     module _
-        (r : InRange B) (reach credit : ℕ → ℕ) (d : ℕ) (b : Balanced B K reach credit) (h : e < edges B)
+        (r : Inside B) (reach credit : ℕ → ℕ) (d : ℕ) (b : Balanced B K reach credit) (h : e < edges B)
         (enough : 2 ≤ 2 * d + reach (firstEnd B e) + reach (secondEnd B e)) where
       -- what each cluster has now: the fused one enough for a walk through e, any other no less than before
       abbrev paidFor : ℕ → ℕ
@@ -141,10 +140,10 @@ module _ (B : Board) (K : Clustering) (e : ℕ) where
       both : worth B K credit near + worth B K credit far + d ≤ paidFor near
       both =
           let more : cond (eqb (fused .cluster (firstEnd B e)) near) d 0 ≡ d = rw (eq-eqb _ near fused-first) in
-          omega (arith, fused-worth credit, worth-raised B fused credit (firstEnd B e) d near (r .first e h))
+          omega (arith, fused-worth credit, worth-raised B fused credit (firstEnd B e) d near (r .first-in-range e h))
 
       own : (k : ℕ) → (k ≡ far → ⊥) → worth B K credit k ≤ paidFor k
-      own k other = omega (arith, other-worth credit k other, worth-raised B fused credit (firstEnd B e) d k (r .first e h))
+      own k other = omega (arith, other-worth credit k other, worth-raised B fused credit (firstEnd B e) d k (r .first-in-range e h))
 
       -- the walks within the old clusters, over the new potentials
       within : (u v : ℕ) → u < B .vertices → v < B .vertices → K .cluster u ≡ K .cluster v
@@ -173,12 +172,12 @@ module _ (B : Board) (K : Clustering) (e : ℕ) where
       fused-paid u v hu hv true false p q same =
           let far-u = eqb-true (K .cluster u) far p in
           paid-more
-          (through u (secondEnd B e) (firstEnd B e) v hu (r .second e h) (r .first e h) hv (back refl refl) (omega arith) far-u same)
+          (through u (secondEnd B e) (firstEnd B e) v hu (r .second-in-range e h) (r .first-in-range e h) hv (back refl refl) (omega arith) far-u same)
           (rw far-u (omega (arith, both))) (λ x. refl)
       fused-paid u v hu hv false true p q same =
           let far-v = eqb-true (K .cluster v) far q in
           paid-more
-          (through u (firstEnd B e) (secondEnd B e) v hu (r .first e h) (r .second e h) hv (forth refl refl) enough same (sym far-v))
+          (through u (firstEnd B e) (secondEnd B e) v hu (r .first-in-range e h) (r .second-in-range e h) hv (forth refl refl) enough same (sym far-v))
           (rw same both) (λ x. refl)
       fused-paid u v hu hv false false p q same =
           paid-more (within u v hu hv same) (own (K .cluster u) (eqb-false (K .cluster u) far p)) (λ x. refl)
@@ -189,7 +188,7 @@ module _ (B : Board) (K : Clustering) (e : ℕ) where
           record { paid = λ u v hu hv same. fused-paid u v hu hv (eqb (K .cluster u) far) (eqb (K .cluster v) far) refl refl same }
 
 -- Insertion of one edge.
-pub insert : (B : Board) → InRange B → (K : Clustering) (reach credit : ℕ → ℕ) (T d e : ℕ) → ShortWalksUnmarked B T
+pub insert : (B : Board) → Inside B → (K : Clustering) (reach credit : ℕ → ℕ) (T d e : ℕ) → ShortWalksUnmarked B T
     → Balanced B K reach credit → e < edges B → 2 ≤ 2 * d + reach (firstEnd B e) + reach (secondEnd B e)
     → total B credit + d ≤ T → Inserted B K reach credit d e
 insert B r K reach credit T d e short b h enough fits = go (eqb (near B K e) (far B K e)) refl
@@ -210,7 +209,7 @@ insert B r K reach credit T d e short b h enough fits = go (eqb (near B K e) (fa
           clustering = fused B K e;
           credits = raised credit (firstEnd B e) d;
           balanced = fused-balanced B K e parted r reach credit d b h enough;
-          cost = omega (arith, raised-total B credit (firstEnd B e) d (r .first e h));
+          cost = omega (arith, raised-total B credit (firstEnd B e) d (r .first-in-range e h));
           keeps = fused-keeps B K e;
           settles = fused-settles B K e parted;
         }

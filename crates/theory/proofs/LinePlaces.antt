@@ -19,7 +19,7 @@ use Rattle.model.specs.Board.{Sheet}
 use Rattle.model.specs.Refusals.{placeOf}
 use Rattle.model.specs.Text.{newline, Line, V-line, printed, partedBy, lineFrom, Read, complete, refused, orMalformed, firstLine, begun, step, readOn, readLines, readText}
 use Rattle.model.specs.LineNumbers.{newlinesBefore, lineNumber, LineBegins, firstLineOf, IsText, FirstMalformed, FirstMalformedNumber}
-use Rattle.theory.proofs.Fields.{Without, nowhere, besides, parted-one, parted-first, NotEmpty, not-empty, parted-not-empty}
+use Rattle.theory.proofs.DecimalFields.{Without, nowhere, besides, parted-one, parted-first, NotEmpty, not-empty, parted-not-empty}
 use Rattle.theory.proofs.TextLines.{line-without}
 use Rattle.theory.proofs.TextReading.{refused-complete, Spells, spelt-on, reads-spelt}
 

@@ -6,23 +6,22 @@ use mathlib.Core.Bool.{Bool, true, false, false≢true}
 use borrow.Author.Tests.{ltb-true, ltb-false}
 use lib.Dec.{ltb}
 use Rattle.model.specs.Sums.{Set}
-use Rattle.model.specs.Board.{Board}
+use Rattle.model.specs.Board.{Board, Inside}
 use Rattle.model.specs.Winding.{winds, size}
 use Rattle.model.specs.Demand3.{EveryLoopAbove}
-use Rattle.theory.proofs.Syndromes.{InRange}
-use Rattle.theory.proofs.Lines.{Closed, winds-closed}
+use Rattle.theory.proofs.CrossedLines.{Closed, winds-closed}
 use Rattle.theory.proofs.ShortLoops.{ShortWalksUnmarked}
 use Rattle.theory.proofs.Potentials.{potential-unwound}
 use Rattle.theory.proofs.InsertAll.{insert-first}
 
 -- a closed set of at most k edges does not wind
-pub small-unwound : (B : Board) → InRange B → (k : ℕ) → ShortWalksUnmarked B k → (D : Set) → size B D ≤ k → Closed B D → winds B D ≡ false
+pub small-unwound : (B : Board) → Inside B → (k : ℕ) → ShortWalksUnmarked B k → (D : Set) → size B D ≤ k → Closed B D → winds B D ≡ false
 small-unwound B r k short D few c =
     let i = insert-first B r k D short few in
     potential-unwound B r (i .clustering .potential) D (record { fits = λ x e h p. i .settles e h p .fits x }) c
 
 -- Every winding loop has more than k edges.
-pub walks-above-loops : (B : Board) → InRange B → (k : ℕ) → ShortWalksUnmarked B k → EveryLoopAbove B k
+pub walks-above-loops : (B : Board) → Inside B → (k : ℕ) → ShortWalksUnmarked B k → EveryLoopAbove B k
 walks-above-loops B r k short = record { above = λ D w. large D w (ltb k (size B D)) refl }
   where
     large : (D : Set) → winds B D ≡ true → (t : Bool) → ltb k (size B D) ≡ t → k < size B D

@@ -8,7 +8,7 @@ use mathlib.Core.Option.{Option, none, some}
 use borrow.Author.Tests.{eqb-true, eqb-false, ne-eqb}
 use lib.Dec.{eqb}
 use Rattle.model.specs.Sums.{Set, _⊕_}
-use Rattle.model.specs.Board.{Board, edges, firstEnd, secondEnd}
+use Rattle.model.specs.Board.{Board, Inside, edges, firstEnd, secondEnd}
 use Rattle.model.specs.Syndrome.{HasSyndrome}
 use Rattle.model.specs.Components.{label, labels, within}
 use Rattle.model.specs.Growth.{odd}
@@ -18,14 +18,14 @@ use Rattle.model.specs.Demand3.{Unmet}
 use Rattle.model.proofs.Xor.{xor-self}
 use Rattle.model.proofs.SumLaws.{odd-none, none-first}
 use Rattle.theory.proofs.GrowthRun.{NoneOdd}
-use Rattle.theory.proofs.Syndromes.{InRange, cut-syndrome}
+use Rattle.theory.proofs.Syndromes.{cut-syndrome}
 use Rattle.theory.proofs.Connected.{along}
 use Rattle.theory.proofs.Components.{connected-part, part-own}
 use Rattle.theory.proofs.SmallestOdd.{smallest-odd-exactly}
 use Rattle.theory.proofs.Corrections.{correction-has-syndrome}
 
 -- A set with the syndrome, made of edges of F only, leaves no part of F odd: none of its edges crosses a part.
-pub part-even : (B : Board) → InRange B → (F E S : Set) → ((e : ℕ) → e < edges B → E e ≡ true → F e ≡ true) → HasSyndrome B E S → (a : ℕ)
+pub part-even : (B : Board) → Inside B → (F E S : Set) → ((e : ℕ) → e < edges B → E e ≡ true → F e ≡ true) → HasSyndrome B E S → (a : ℕ)
     → odd B (labels B F) S a ≡ false
 unfolding odd
 part-even B r F E S sub has a =
@@ -39,7 +39,7 @@ part-even B r F E S sub has a =
     go e h false p = rw p
 
 -- where the part of every vertex is even, no part is odd: a number that labels no vertex has none
-pub even-parts : (B : Board) → InRange B → (F S : Set) → ((v : ℕ) → v < B .vertices → odd B (labels B F) S (label (labels B F) v) ≡ false)
+pub even-parts : (B : Board) → Inside B → (F S : Set) → ((v : ℕ) → v < B .vertices → odd B (labels B F) S (label (labels B F) v) ≡ false)
     → NoneOdd B (labels B F) S
 unfolding odd
 even-parts B r F S each = record { even = λ a h. go a h (eqb (label (labels B F) a) a) refl }
@@ -56,14 +56,14 @@ even-parts B r F S each = record { even = λ a h. go a h (eqb (label (labels B F
 -- Theorem: no correction
 
 -- where a part of the whole board is odd, no set has the syndrome
-pub no-correction-unmet : (B : Board) → InRange B → (S : Set) (v : ℕ) → smallestOdd B S ≡ some v → Unmet B S
+pub no-correction-unmet : (B : Board) → Inside B → (S : Set) (v : ℕ) → smallestOdd B S ≡ some v → Unmet B S
 unfolding inOddPart parts
 no-correction-unmet B r S v p E has =
     let w = smallest-odd-exactly B S v .0 p in
     true≢false (sym (w .holds) ∙ part-even B r (λ e. true) E S (λ e h q. refl) has (label (parts B) v))
 
 -- otherwise one has it, a subset of the whole board's forest
-pub some-correction : (B : Board) → InRange B → (S : Set) → smallestOdd B S ≡ none → HasSyndrome B (correction B (λ e. true) S) S
+pub some-correction : (B : Board) → Inside B → (S : Set) → smallestOdd B S ≡ none → HasSyndrome B (correction B (λ e. true) S) S
 unfolding smallestOdd inOddPart parts
 some-correction B r S p =
     correction-has-syndrome B r (λ e. true) S (even-parts B r (λ e. true) S (none-first (B .vertices) (inOddPart B S) p))
@@ -73,7 +73,7 @@ pub record SomeOdd (B : Board) (S : Set) : Type 0 where
   pub vertex : ℕ
   pub smallest : smallestOdd B S ≡ some vertex
 
-pub no-correction-exactly : (B : Board) → InRange B → (S : Set) → SomeOdd B S ↔ Unmet B S
+pub no-correction-exactly : (B : Board) → Inside B → (S : Set) → SomeOdd B S ↔ Unmet B S
 no-correction-exactly B r S = (λ o. no-correction-unmet B r S (o .vertex) (o .smallest), λ unmet. go unmet (smallestOdd B S) refl)
   where
     go : Unmet B S → (o : Option ℕ) → smallestOdd B S ≡ o → SomeOdd B S

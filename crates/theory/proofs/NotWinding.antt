@@ -12,14 +12,14 @@ use borrow.Author.Tests.{eqb-true, eqb-false, ne-eqb, not-true}
 use lib.ListN.{getD}
 use lib.Dec.{eqb}
 use Rattle.model.specs.Sums.{Set, _⊕_, bit}
-use Rattle.model.specs.Board.{Board, edges, firstEnd, secondEnd}
+use Rattle.model.specs.Board.{Board, Inside, edges, firstEnd, secondEnd}
 use Rattle.model.specs.Syndrome.{HasSyndrome}
 use Rattle.model.specs.Winding.{winds, together}
 use Rattle.model.specs.Components.{labels, label, within}
 use Rattle.model.specs.Growth.{start, full, clusters, grow}
 use Rattle.model.specs.Demand3.{lostEdges, keptEdges, EveryLoopAbove}
 use Rattle.model.proofs.Xor.{and-left, and-right, and-both}
-use Rattle.theory.proofs.Syndromes.{InRange, together-closed}
+use Rattle.theory.proofs.Syndromes.{together-closed}
 use Rattle.theory.proofs.Connected.{connected-keeps}
 use Rattle.theory.proofs.Components.{part-smallest}
 use Rattle.theory.proofs.Forests.{Within}
@@ -50,7 +50,7 @@ start-full B lost e h = ap (λ x. eqb x 2) (start-at B lost e h) ∙ go (lost e)
     go true = refl
     go false = refl
 
-module _ (B : Board) (r : InRange B) (T : ℕ) (short : ShortWalksUnmarked B T) where
+module _ (B : Board) (r : Inside B) (T : ℕ) (short : ShortWalksUnmarked B T) where
   -- At the start the lost edges are inserted, each for 1.
   start-books : (lost : Set) → lostEdges B lost ≤ T → Books B (start B lost) (lostEdges B lost)
   start-books lost few =
@@ -122,7 +122,7 @@ module _ (B : Board) (r : InRange B) (T : ℕ) (short : ShortWalksUnmarked B T) 
         settled e l p false q = inserted .settles e l (and-both _ (not (full s e)) p (ap not q))
 
 -- After g growths there are books with t + g of credit, as long as T allows that.
-reached-books : (B : Board) → InRange B → (T : ℕ) → ShortWalksUnmarked B T → (S lost : Set) {s : List ℕ} {g : ℕ} → Reached B S lost s g
+reached-books : (B : Board) → Inside B → (T : ℕ) → ShortWalksUnmarked B T → (S lost : Set) {s : List ℕ} {g : ℕ} → Reached B S lost s g
     → lostEdges B lost + g ≤ T → Books B s (lostEdges B lost + g)
 reached-books B r T short S lost c =
     reached-holds B S lost (λ s g. lostEdges B lost + g ≤ T → Books B s (lostEdges B lost + g)) first next c
@@ -137,7 +137,7 @@ reached-books B r T short S lost c =
         (grow-books B r T short s (lostEdges B lost + g) a (o .below) (omega arith) (before (omega arith)))
 
 -- Not winding.
-pub not-winding : (B : Board) → InRange B → (S lost E C : Set) → HasSyndrome B E S → HasSyndrome B C S
+pub not-winding : (B : Board) → Inside B → (S lost E C : Set) → HasSyndrome B E S → HasSyndrome B C S
     → {s : List ℕ} {g : ℕ} → Reached B S lost s g → Within B C (full s)
     → EveryLoopAbove B (lostEdges B lost + 2 * keptEdges B lost E) → winds B (together E C) ≡ false
 not-winding B r S lost E C has also {s} {g} c inside above =

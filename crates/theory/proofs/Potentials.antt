@@ -4,12 +4,12 @@ use Prim.Native.Nat.{ℕ, _<_}
 use mathlib.Core.Path.{_≡_, refl, sym, ap, _∙_}
 use mathlib.Core.Bool.{Bool, true, false, _&&_, and-false}
 use Rattle.model.specs.Sums.{Set, _⊕_}
-use Rattle.model.specs.Board.{Board, edges, firstEnd, secondEnd}
+use Rattle.model.specs.Board.{Board, Inside, edges, firstEnd, secondEnd}
 use Rattle.model.specs.Syndrome.{syndrome}
 use Rattle.model.specs.Winding.{winds}
 use Rattle.model.proofs.SumLaws.{odd-cong, odd-none}
-use Rattle.theory.proofs.Syndromes.{InRange, cut}
-use Rattle.theory.proofs.Lines.{Line, crosses, crossesOddly, Closed, unmarked-unwound}
+use Rattle.theory.proofs.Syndromes.{cut}
+use Rattle.theory.proofs.CrossedLines.{Line, crosses, crossesOddly, Closed, unmarked-unwound}
 
 -- the difference of f along edge e
 abbrev pub difference : Board → Set → ℕ → Bool
@@ -19,7 +19,7 @@ difference B f e = f (firstEnd B e) ⊕ f (secondEnd B e)
 pub record Potential (B : Board) (f : Line → Set) (D : Set) : Type 0 where
   pub fits : (x : Line) (e : ℕ) → e < edges B → D e ≡ true → crosses B x e ≡ difference B (f x) e
 
-pub potential-even : (B : Board) → InRange B → (f : Line → Set) (D : Set) → Potential B f D → Closed B D
+pub potential-even : (B : Board) → Inside B → (f : Line → Set) (D : Set) → Potential B f D → Closed B D
     → (x : Line) → crossesOddly B x D ≡ false
 unfolding crossesOddly
 potential-even B r f D p c x =
@@ -32,5 +32,5 @@ potential-even B r f D p c x =
     same false q = refl
 
 -- A closed set on which there is a potential for each line does not wind.
-pub potential-unwound : (B : Board) → InRange B → (f : Line → Set) (D : Set) → Potential B f D → Closed B D → winds B D ≡ false
+pub potential-unwound : (B : Board) → Inside B → (f : Line → Set) (D : Set) → Potential B f D → Closed B D → winds B D ≡ false
 potential-unwound B r f D p c = unmarked-unwound B D (potential-even B r f D p c)

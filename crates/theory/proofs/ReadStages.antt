@@ -39,11 +39,14 @@ begun-stage n h l =
             board =
                 record {
                   some-vertex = h;
-                  vertex-limit = l;
-                  edge-limit = omega arith;
-                  two-ends = refl;
-                  first-in-range = λ e p. absurd (not-suc-le-zero p);
-                  second-in-range = λ e p. absurd (not-suc-le-zero p);
+                  inside =
+                      record {
+                        vertex-limit = l;
+                        edge-limit = omega arith;
+                        two-ends = refl;
+                        first-in-range = λ e p. absurd (not-suc-le-zero p);
+                        second-in-range = λ e p. absurd (not-suc-le-zero p);
+                      };
                   ends-differ = λ e p. absurd (not-suc-le-zero p);
                   mark-in-range = λ e p. absurd (not-suc-le-zero p);
                 };
@@ -90,7 +93,7 @@ unfolding linesOf
 edge-step X last a b m s p q =
     let B = X .board in
     let r = in-range B a b m q in
-    let two = s .valid .board .two-ends in
+    let two = s .valid .board .inside .two-ends in
     let unlit = s .syndrome-clear 0 (edge-then-syndrome last 0 p) in
     let kept = s .loss-clear 0 (syndrome-then-loss last 0 0 (edge-then-syndrome last 0 p)) in
     let kept′ = clear-append kept in

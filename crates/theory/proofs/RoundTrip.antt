@@ -1,5 +1,5 @@
--- Document 01, "Text": each board with its syndrome and losses has one text. Reading and writing undo each other: the text of a valid
--- sheet reads as that sheet, and a text that reads as a sheet is that sheet's text. Assumes nothing.
+-- Document 01, "Text": the text of a valid sheet reads as that sheet, and a text that reads as a sheet is that sheet's text, so that a sheet
+-- has one text. Assumes nothing.
 use Prim.Native.Nat.{ℕ}
 use mathlib.Core.Path.{_≡_, sym, ap, _∙_}
 use mathlib.Core.List.{List, _++_}
@@ -18,7 +18,7 @@ read-written X w =
     record {
       vertices = X .board .vertices;
       some-vertex = w .board .some-vertex;
-      vertex-limit = w .board .vertex-limit;
+      vertex-limit = w .board .inside .vertex-limit;
       lines = t .lines;
       final = t .final;
       lead = t .lead;

@@ -16,8 +16,8 @@ use Rattle.model.specs.Winding.{winds, size}
 use Rattle.model.specs.Demand3.{EveryLoopAbove}
 use Rattle.model.proofs.Xor.{xor-and, xor-self, xor-comm, not-true-false}
 use Rattle.model.proofs.SumLaws.{odd-cong, odd-false, odd-xor, odd-at, count-none}
-use Rattle.theory.proofs.Sums.{xor-through, count-xor, count-at}
-use Rattle.theory.proofs.Lines.{Line, crosses, crossesOddly, Closed, marked-winds}
+use Rattle.theory.proofs.Totals.{xor-through, count-xor, count-at}
+use Rattle.theory.proofs.CrossedLines.{Line, crosses, crossesOddly, Closed, marked-winds}
 use Rattle.theory.proofs.Walks.{Along, forth, back, Walk, stop, step, oddAlong, walkCrosses, passedOddly}
 
 -- the parity of f over the walk's odd edges is its parity along the walk

@@ -7,12 +7,11 @@ use mathlib.Core.Logic.{_↔_, ⊎-elim}
 use mathlib.Core.Option.{some}
 use native.Mathlib.Nat.{eq-or-lt-of-le}
 use Rattle.model.specs.Sums.{Set}
-use Rattle.model.specs.Board.{Board}
+use Rattle.model.specs.Board.{Board, Inside}
 use Rattle.model.specs.Components.{label}
 use Rattle.model.specs.Growth.{odd}
 use Rattle.model.specs.Decoding.{parts, inOddPart, smallestOdd}
 use Rattle.model.proofs.SumLaws.{First, first-is, first-found}
-use Rattle.theory.proofs.Syndromes.{InRange}
 use Rattle.theory.proofs.Connected.{alone}
 use Rattle.theory.proofs.Components.{Smallest, part-own, part-smallest}
 
@@ -22,12 +21,12 @@ unfolding smallestOdd
 smallest-odd-exactly B S v = (first-found (B .vertices) (inOddPart B S) v, first-is (B .vertices) (inOddPart B S) v)
 
 -- a part's label lies in it, so it is odd where the part is
-label-in-odd-part : (B : Board) → InRange B → (S : Set) (v : ℕ) → v < B .vertices → inOddPart B S (label (parts B) v) ≡ inOddPart B S v
+label-in-odd-part : (B : Board) → Inside B → (S : Set) (v : ℕ) → v < B .vertices → inOddPart B S (label (parts B) v) ≡ inOddPart B S v
 unfolding inOddPart parts
 label-in-odd-part B r S v h = ap (odd B (parts B) S) (part-own B (λ e. true) r v h)
 
 -- Theorem: what is shown is the smallest of the vertices connected to it
-pub smallest-of-part : (B : Board) → InRange B → (S : Set) (v : ℕ) → smallestOdd B S ≡ some v → Smallest B (λ e. true) v v
+pub smallest-of-part : (B : Board) → Inside B → (S : Set) (v : ℕ) → smallestOdd B S ≡ some v → Smallest B (λ e. true) v v
 unfolding parts
 smallest-of-part B r S v p =
     ⊎-elim (λ q. subst (Smallest B (λ e. true) v) q s) (λ l. absurd (smaller l))

@@ -5,19 +5,11 @@ use mathlib.Core.Path.{_≡_, refl, sym, ap, ap₂, _∙_}
 use mathlib.Core.Bool.{Bool, true, false, _&&_, and-comm}
 use lib.Dec.{eqb}
 use Rattle.model.specs.Sums.{Set, _⊕_, oddUpTo}
-use Rattle.model.specs.Board.{Board, Valid, edges, firstEnd, secondEnd}
+use Rattle.model.specs.Board.{Board, Inside, edges, firstEnd, secondEnd}
 use Rattle.model.specs.Syndrome.{meets, syndrome, HasSyndrome}
 use Rattle.model.specs.Winding.{together}
 use Rattle.model.proofs.Xor.{and-xor, xor-and, xor-self}
 use Rattle.model.proofs.SumLaws.{odd-cong, odd-xor, odd-and, odd-exchange, odd-at, odd-false}
-
--- the ends of every edge are vertices
-pub record InRange (B : Board) : Type 0 where
-  pub first : (e : ℕ) → e < edges B → firstEnd B e < B .vertices
-  pub second : (e : ℕ) → e < edges B → secondEnd B e < B .vertices
-
-pub valid-in-range : {B : Board} → Valid B → InRange B
-valid-in-range w = record { first = w .first-in-range; second = w .second-in-range }
 
 -- only the edges below the edge count matter
 pub syndrome-cong : (B : Board) (D E : Set) → ((e : ℕ) → e < edges B → D e ≡ E e) → (v : ℕ) → syndrome B D v ≡ syndrome B E v
@@ -54,16 +46,16 @@ syndrome-edge B true e h v =
     ∙ odd-at (edges B) e (λ i. meets B i v) h
 
 -- the parity over A of how often edge e meets a vertex
-pub ends-parity : (B : Board) → InRange B → (A : Set) (e : ℕ) → e < edges B
+pub ends-parity : (B : Board) → Inside B → (A : Set) (e : ℕ) → e < edges B
     → oddUpTo (B .vertices) (λ v. A v && meets B e v) ≡ A (firstEnd B e) ⊕ A (secondEnd B e)
 ends-parity B r A e h =
     odd-cong (B .vertices) (λ v. A v && meets B e v) (λ v. (A v && eqb (firstEnd B e) v) ⊕ (A v && eqb (secondEnd B e) v))
     (λ v l. and-xor (A v) (eqb (firstEnd B e) v) (eqb (secondEnd B e) v))
     ∙ odd-xor (B .vertices) (λ v. A v && eqb (firstEnd B e) v) (λ v. A v && eqb (secondEnd B e) v)
-    ∙ ap₂ _⊕_ (odd-at (B .vertices) (firstEnd B e) A (r .first e h)) (odd-at (B .vertices) (secondEnd B e) A (r .second e h))
+    ∙ ap₂ _⊕_ (odd-at (B .vertices) (firstEnd B e) A (r .first-in-range e h)) (odd-at (B .vertices) (secondEnd B e) A (r .second-in-range e h))
 
 -- Cut: the parity over A of the syndrome of E is that of the edges of E with exactly one end in A.
-pub cut : (B : Board) → InRange B → (A E : Set)
+pub cut : (B : Board) → Inside B → (A E : Set)
     → oddUpTo (B .vertices) (λ v. A v && syndrome B E v) ≡ oddUpTo (edges B) (λ e. E e && (A (firstEnd B e) ⊕ A (secondEnd B e)))
 unfolding syndrome
 cut B r A E =
@@ -87,7 +79,7 @@ cut B r A E =
         ∙ ap (λ x. E e && x) (ends-parity B r A e h)
 
 -- the same over a syndrome that is given
-pub cut-syndrome : (B : Board) → InRange B → (A E S : Set) → HasSyndrome B E S
+pub cut-syndrome : (B : Board) → Inside B → (A E S : Set) → HasSyndrome B E S
     → oddUpTo (B .vertices) (λ v. S v && A v) ≡ oddUpTo (edges B) (λ e. E e && (A (firstEnd B e) ⊕ A (secondEnd B e)))
 cut-syndrome B r A E S has =
     odd-cong (B .vertices) (λ v. S v && A v) (λ v. A v && syndrome B E v) (λ v h. rw (sym (has .at v h)) (and-comm (syndrome B E v) (A v)))

@@ -10,7 +10,7 @@ use borrow.Author.Tests.{eqb-true}
 use lib.Dec.{eqb}
 use Rattle.model.specs.Text.{newline, tab, digitZero, Line, V-line, E-line, S-line, X-line, letterV, letterE, letterS, letterX, letterOf, numbersOf, fieldsOf, bytesOf, partedBy, numbers, lineOf, fromFields, lineFrom}
 use Rattle.theory.proofs.Options.{and-then, passed}
-use Rattle.theory.proofs.Fields.{Without, nowhere, besides, without-append, decimal-without, joined, joined-parted, parted-fields, numbers-read, led-fields}
+use Rattle.theory.proofs.DecimalFields.{Without, nowhere, besides, without-append, decimal-without, joined, joined-parted, parted-fields, numbers-read, led-fields}
 
 -- letters are past the digits, separators before them
 letter-apart : (p : ℕ) (l : Line) → p < digitZero → letterOf l ≢ p

@@ -15,7 +15,7 @@ use Rattle.model.specs.Text.{newline, Line, V-line, E-line, S-line, X-line, byt
 use Rattle.model.proofs.Xor.{and-left, and-right}
 use Rattle.model.proofs.Contradiction.{zero-one}
 use Rattle.theory.proofs.Options.{passed}
-use Rattle.theory.proofs.Fields.{NotEmpty, not-empty, parted-not-empty, parted-first, joined, joined-parted}
+use Rattle.theory.proofs.DecimalFields.{NotEmpty, not-empty, parted-not-empty, parted-first, joined, joined-parted}
 use Rattle.theory.proofs.TextLines.{line-without, line-read, read-line}
 
 -- where an edge may follow, so may any syndrome vertex, and where a syndrome vertex may follow, so may any lost edge

@@ -18,7 +18,7 @@ use Rattle.model.specs.Verdict.{differs, judgedAt, judged}
 use Rattle.model.proofs.Xor.{xor-equal, equal-xor}
 use Rattle.model.proofs.SumLaws.{none-first, first-none}
 use Rattle.theory.proofs.Syndromes.{together-closed}
-use Rattle.theory.proofs.Lines.{closed-true}
+use Rattle.theory.proofs.CrossedLines.{closed-true}
 
 -- Two sets with one syndrome are closed together.
 pub closed-together : (B : Board) (D E S : Set) → HasSyndrome B D S → HasSyndrome B E S → closed B (together D E) ≡ true

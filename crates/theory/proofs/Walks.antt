@@ -8,7 +8,7 @@ use lib.Dec.{eqb}
 use Rattle.model.specs.Sums.{Set, _⊕_}
 use Rattle.model.specs.Board.{Board, edges, firstEnd, secondEnd}
 use Rattle.model.proofs.Xor.{xor-assoc}
-use Rattle.theory.proofs.Lines.{Line, crosses}
+use Rattle.theory.proofs.CrossedLines.{Line, crosses}
 
 -- edge e leads from u to v, forth from its first end or back to it
 pub data Along (B : Board) (e u v : ℕ) : Type 0 where

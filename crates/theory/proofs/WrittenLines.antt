@@ -102,14 +102,14 @@ one-zero-more k = sym (replicate-append-replicate k 1 0 ∙ ap (λ i. replicate 
 edge-added : (X : Sheet) → ValidSheet X → (k : ℕ) → k < edges (X .board)
     → withEdge (withEdges X k) (firstEnd (X .board) k) (secondEnd (X .board) k) (mark (X .board) k) ≡ withEdges X (suc k)
 edge-added X w k h =
-    let two = w .board .two-ends in
+    let two = w .board .inside .two-ends in
     rw (take-two (X .board .ends) k (omega arith), take-suc (X .board .marks) k 0 h, one-zero-more k)
 
 -- the first k edges leave room for one more
 addable : (X : Sheet) → ValidSheet X → (k : ℕ) → k < edges (X .board)
     → Addable (withEdges X k .board) (firstEnd (X .board) k) (secondEnd (X .board) k) (mark (X .board) k)
 addable X w k h =
-    let limit = w .board .edge-limit in
+    let limit = w .board .inside .edge-limit in
     let long = length-take-le k (X .board .marks) (omega arith) in
     record { room = omega arith; fits = fit-lines (X .board) (w .board) k h }
 
@@ -183,7 +183,7 @@ loss-turn X w =
 edges-end : (X : Sheet) → ValidSheet X → withEdges X (edges (X .board)) ≡ withLit X 0
 edges-end X w =
     let B = X .board in
-    let long = w .board .two-ends in
+    let long = w .board .inside .two-ends in
     rw (take-all (2 * edges B) (B .ends) (omega arith), take-length (B .marks), upTo-none (B .vertices) (X .syndrome))
 
 syndrome-ends : (X : Sheet) → ValidSheet X → withLit X (X .board .vertices) ≡ withLost X 0

@@ -2,5 +2,5 @@ pub mod Numbering
 pub mod Edges
 pub mod Filling
 pub mod Writing
-pub mod Rows
-pub mod Validity
+pub mod TorusRows
+pub mod TorusValid

@@ -1,41 +1,56 @@
+// The neighbours of a vertex of the torus, and the marks of the edges that lead to them.
+use model::numbers::Vertex;
 ghost use mathlib.Core.Path.{_≡_};
 ghost use mathlib.Core.Bool.{cond};
-ghost use Prim.Native.Nat.{_*_, _-_, _≤_, _<_};
+ghost use Prim.Native.Nat.{_*_, _-_, _<_};
 ghost use lib.Dec.{eqb};
 ghost use Rattle.model.specs.Torus.{row, column, rightOf, below};
+ghost use Rattle.torus.specs.Sides.{SideWithin};
 
 // The vertex to the right of v, in its row.
-pub(crate) fn right_of(side: usize, v: usize) -> u16
-    requires { ⌜ (2 ≤ side) × (side ≤ 32) × (v < side * side) ⌝ }
-    ensures { λ r. ⌜ r ≡ rightOf side v ⌝ }
+pub(crate) fn right_of(side: usize, v: Vertex) -> Vertex
+    requires { ⌜ SideWithin side × (v .0 < side * side) ⌝ }
+    ensures { λ r. ⌜ r .0 ≡ rightOf side (v .0) ⌝ }
 {
-    let start = v / side * side;
-    let column = (v % side + 1) % side;
-    (start + column) as u16
+    let number = v.0 as usize;
+    let start = number / side * side;
+    let column = (number % side + 1) % side;
+    let right = (start + column) as u16;
+    Vertex(right)
 }
 
 // The vertex below v, in its column.
-pub(crate) fn below_of(side: usize, v: usize) -> u16
-    requires { ⌜ (2 ≤ side) × (side ≤ 32) × (v < side * side) ⌝ }
-    ensures { λ r. ⌜ r ≡ below side v ⌝ }
+pub(crate) fn below_of(side: usize, v: Vertex) -> Vertex
+    requires { ⌜ SideWithin side × (v .0 < side * side) ⌝ }
+    ensures { λ r. ⌜ r .0 ≡ below side (v .0) ⌝ }
 {
-    let row = (v / side + 1) % side;
-    let start = row * side;
-    (start + v % side) as u16
+    let number = v.0 as usize;
+    let row = (number / side + 1) % side;
+    let column = number % side;
+    let below = (row * side + column) as u16;
+    Vertex(below)
 }
 
 // The mark of the edge to the right of v: 1 in the last column.
-pub(crate) fn right_mark(side: usize, v: usize) -> u8
-    requires { ⌜ 2 ≤ side ⌝ }
-    ensures { λ r. ⌜ r ≡ cond (eqb (column side v) (side - 1)) 1 0 ⌝ }
+pub(crate) fn right_mark(side: usize, v: Vertex) -> u8
+    requires { ⌜ 0 < side ⌝ }
+    ensures { λ r. ⌜ r ≡ cond (eqb (column side (v .0)) (side - 1)) 1 0 ⌝ }
 {
-    if v % side == side - 1 { 1 } else { 0 }
+    if v.0 as usize % side == side - 1 {
+        1
+    } else {
+        0
+    }
 }
 
 // The mark of the edge to the vertex below v: 2 in the last row.
-pub(crate) fn below_mark(side: usize, v: usize) -> u8
-    requires { ⌜ 2 ≤ side ⌝ }
-    ensures { λ r. ⌜ r ≡ cond (eqb (row side v) (side - 1)) 2 0 ⌝ }
+pub(crate) fn below_mark(side: usize, v: Vertex) -> u8
+    requires { ⌜ 0 < side ⌝ }
+    ensures { λ r. ⌜ r ≡ cond (eqb (row side (v .0)) (side - 1)) 2 0 ⌝ }
 {
-    if v / side == side - 1 { 2 } else { 0 }
+    if v.0 as usize / side == side - 1 {
+        2
+    } else {
+        0
+    }
 }

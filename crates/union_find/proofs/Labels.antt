@@ -7,6 +7,7 @@ use mathlib.Core.List.{List, [], _∷_, map}
 use native.Mathlib.Nat.{not-suc-le-zero, le-of-suc-le-suc}
 use native.Mathlib.Decide.{decLe}
 use native.Mathlib.Omega.{arith}
+use borrow.Author.Tests.{eqb-true, eq-eqb}
 use lib.ListN.{length}
 use lib.Dec.{eqb}
 use Rattle.model.specs.Sums.{Set}
@@ -14,7 +15,7 @@ use Rattle.model.specs.Board.{Board, firstEnd, secondEnd}
 use Rattle.model.specs.Components.{label, merge, labelsUpTo}
 use Rattle.model.proofs.ListLaws.{getD-values}
 use Rattle.union_find.specs.declared.Joined.{Joined}
-use Rattle.union_find.specs.Trees.{Trees, Alone, moved}
+use Rattle.union_find.specs.Trees.{Trees, Alone, moved, rootOf}
 use Rattle.union_find.specs.Joining.{Joins, Mirrors}
 use Rattle.union_find.proofs.Moved.{moved-same}
 use Rattle.union_find.proofs.Fresh.{alone-root}
@@ -76,3 +77,14 @@ module _ (B : Board) (F : Set) {p : List ℕ} where
   pub mirrors-passed : (e : ℕ) → F e ≡ false → Mirrors (B .vertices) p (labelsUpTo B F e) → Mirrors (B .vertices) p (labelsUpTo B F (suc e))
   unfolding labelsUpTo
   mirrors-passed e passed m = rw passed m
+
+-- one root exactly where one label
+pub root-label : {n : ℕ} {p l : List ℕ} → Mirrors n p l → (u v : ℕ) → u < n → v < n → rootOf p u ≡ rootOf p v → label l u ≡ label l v
+root-label m u v hu hv q = eqb-true _ _ (sym (m .same u v hu hv) ∙ eq-eqb _ _ q)
+
+pub label-root : {n : ℕ} {p l : List ℕ} → Mirrors n p l → (u v : ℕ) → u < n → v < n → label l u ≡ label l v → rootOf p u ≡ rootOf p v
+label-root m u v hu hv q = eqb-true _ _ (m .same u v hu hv ∙ eq-eqb _ _ q)
+
+-- the trees mirror the same labels where every vertex keeps its root
+pub mirrors-kept : {n : ℕ} {p p′ l : List ℕ} → ((u : ℕ) → u < n → rootOf p′ u ≡ rootOf p u) → Mirrors n p l → Mirrors n p′ l
+mirrors-kept same m = record { same = λ u v hu hv. ap₂ eqb (same u hu) (same v hv) ∙ m .same u v hu hv }

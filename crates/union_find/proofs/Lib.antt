@@ -2,7 +2,7 @@ pub mod Roots
 pub mod Moved
 pub mod Counts
 pub mod Hanging
-pub mod Cases
+pub mod JoinCases
 pub mod Unions
 pub mod Compression
 pub mod Fresh

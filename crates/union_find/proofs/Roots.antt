@@ -35,14 +35,6 @@ stepsUpTo p (suc k) v = cond (eqb (at p v) v) 0 (suc (stepsUpTo p k (at p v)))
 pub steps : List ℕ → ℕ → ℕ
 steps p v = stepsUpTo p (length p) v
 
-pub steps-root : (p : List ℕ) (v : ℕ) → at p v ≡ v → steps p v ≡ 0
-unfolding steps stepsUpTo
-steps-root p v q = go (length p)
-  where
-    go : (k : ℕ) → stepsUpTo p k v ≡ 0
-    go zero = refl
-    go (suc k) = rw (eq-eqb (at p v) v q)
-
 module _ {n : ℕ} {p s : List ℕ} (t : Climbs n p s) where
   -- what holds of every root, and of a vertex where it holds of its parent, holds of every vertex
   pub climb : (P : ℕ → Type 0) → ((v : ℕ) → v < n → at p v ≡ v → P v) → ((v : ℕ) → v < n → at p v ≢ v → P (at p v) → P v) → (v : ℕ) → v < n

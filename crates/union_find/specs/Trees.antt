@@ -37,6 +37,11 @@ pub record Trees (n : ℕ) (parent size : List ℕ) : Type 0 where
   pub climbs : Climbs n parent size
   pub counted : (r : ℕ) → r < n → at parent r ≡ r → at size r ≡ countUpTo n (λ v. eqb (rootOf parent v) r)
 
+-- the ways up from the first n vertices, by these parents, end at roots
+pub record Rooted (n : ℕ) (parent : List ℕ) : Type 0 where
+  pub size : List ℕ
+  pub climbs : Climbs n parent size
+
 -- v is one of the vertices whose ways up, by these parents, end
 pub record InTrees (parent : List ℕ) (v : ℕ) : Type 0 where
   pub count : ℕ

@@ -2,6 +2,7 @@
 use model::limits::VERTICES;
 use model::numbers::Vertex;
 ghost use mathlib.Core.Path.{_≡_};
+ghost use Rattle.model.specs.Lent.{before, after};
 ghost use Rattle.union_find.specs.Trees.{Room, Alone, InTrees, RootIs, Compressed, rootOf};
 ghost use Rattle.union_find.specs.Joining.{Joinable, Joins, Hangable, Hangs};
 
@@ -16,7 +17,7 @@ pub enum Joined {
 // The first `vertices` vertices, each alone: its own root, in a tree of one.
 pub fn alone(vertices: usize, parent: &mut [u16; VERTICES], size: &mut [u16; VERTICES])
     requires { ⌜ Room vertices (now parent) (now size) ⌝ }
-    ensures { λ r. ⌜ Alone vertices (now (parent .exit)) (now (size .exit)) ⌝ }
+    ensures { λ r. ⌜ Alone vertices (after parent) (after size) ⌝ }
 {
     for v in 0..vertices {
         parent[v] = v as u16;
@@ -27,7 +28,7 @@ pub fn alone(vertices: usize, parent: &mut [u16; VERTICES], size: &mut [u16; VER
 // The root of v's tree.
 pub fn root_of(parent: &[u16; VERTICES], v: Vertex) -> Vertex
     requires { ⌜ InTrees (now parent) (v .0) ⌝ }
-    ensures { λ r. ⌜ r .0 ≡ rootOf (now (parent .entry)) (v .0) ⌝ }
+    ensures { λ r. ⌜ r .0 ≡ rootOf (before parent) (v .0) ⌝ }
 {
     let mut w = v.0;
     loop {
@@ -42,7 +43,7 @@ pub fn root_of(parent: &[u16; VERTICES], v: Vertex) -> Vertex
 // Path compression: every vertex on the way up from v hangs under v's root. All others keep their parents.
 pub fn compress(parent: &mut [u16; VERTICES], v: Vertex, root: Vertex)
     requires { ⌜ RootIs (now parent) (v .0) (root .0) ⌝ }
-    ensures { λ r. ⌜ Compressed (now (parent .entry)) (v .0) (root .0) (now (parent .exit)) ⌝ }
+    ensures { λ r. ⌜ Compressed (before parent) (v .0) (root .0) (after parent) ⌝ }
 {
     let mut w = v.0;
     while w != root.0 {
@@ -60,7 +61,7 @@ fn hang(
     root: Vertex,
 ) -> Joined
     requires { ⌜ Hangable (now parent) (now size) (child .0) (root .0) ⌝ }
-    ensures { λ r. ⌜ Hangs (now (parent .entry)) (now (size .entry)) child root r (now (parent .exit)) (now (size .exit)) ⌝ }
+    ensures { λ r. ⌜ Hangs (before parent) (before size) child root r (after parent) (after size) ⌝ }
 {
     let x = child.0 as usize;
     let y = root.0 as usize;
@@ -77,7 +78,7 @@ pub fn join(
     b: Vertex,
 ) -> Joined
     requires { ⌜ Joinable (now parent) (now size) (a .0) (b .0) ⌝ }
-    ensures { λ r. ⌜ Joins (now (parent .entry)) (now (size .entry)) (a .0) (b .0) r (now (parent .exit)) (now (size .exit)) ⌝ }
+    ensures { λ r. ⌜ Joins (before parent) (before size) (a .0) (b .0) r (after parent) (after size) ⌝ }
 {
     let x = root_of(parent, a);
     let y = root_of(parent, b);

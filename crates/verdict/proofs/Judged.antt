@@ -1,6 +1,6 @@
 -- What the bytes left after flipping, and the two parities, say of the definition of the verdict. Assumes nothing.
-use Prim.Native.Nat.{ℕ, _+_, _*_, _<_, _≤_}
-use mathlib.Core.Path.{_≡_, refl, sym, ap, subst, _∙_}
+use Prim.Native.Nat.{ℕ, _<_, _≤_}
+use mathlib.Core.Path.{_≡_, refl, sym, ap, _∙_}
 use mathlib.Core.Bool.{Bool, true, false}
 use mathlib.Core.List.{List}
 use mathlib.Core.Option.{Option, none, some}
@@ -10,60 +10,61 @@ use lib.Dec.{eqb, ltb}
 use lib.ListN.{length, getD, take}
 use lib.Seq.{getD-take, length-take-le}
 use Rattle.model.specs.Sums.{Set, _⊕_, bit, firstUpTo, ones}
-use Rattle.model.specs.Board.{Board, edges, Valid, ValidBytes}
+use Rattle.model.specs.Board.{Board, EndsWithin, edges}
 use Rattle.model.specs.Syndrome.{syndrome}
-use Rattle.model.specs.Winding.{crossings}
+use Rattle.model.specs.Winding.{crossings, together}
 use Rattle.model.specs.Verdict.{differs, compared, judged}
+use Rattle.model.specs.Refusals.{above}
 use Rattle.model.specs.declared.answers.Verdict.the-variants.{Off, Same, Wound}
 use Rattle.model.proofs.Xor.{xor-comm}
+use Rattle.model.proofs.Bits.{byte-bit}
 use Rattle.model.proofs.SumLaws.{first-cong}
-use Rattle.verdict.specs.Parity.{Holds, Flipped, EdgeOf, Edges, metBy}
-use Rattle.verdict.specs.Marks.{crossedA, crossedB}
+use Rattle.board.proofs.CopyLaws.{copied}
+use Rattle.verdict.specs.VertexParities.{Bits, Flipped, metBy}
+use Rattle.verdict.specs.CrossingParities.{crossedBy}
 use Rattle.verdict.specs.Judging.{Judgeable}
+use Rattle.verdict.proofs.LoadedBytes.{loaded-ones}
 
-bit-lit : (b : Bool) → ltb 0 (bit b) ≡ b
-bit-lit true = refl
-bit-lit false = refl
+-- a byte that is 0 or 1 is lit where it is 1
+lit : (x : ℕ) → x ≤ 1 → ltb 0 x ≡ eqb x 1
+lit x h = ap (λ y. ltb 0 y) (byte-bit x h) ∙ go (eqb x 1)
+  where
+    go : (b : Bool) → ltb 0 (bit b) ≡ b
+    go true = refl
+    go false = refl
 
 -- the first byte that is lit is where the syndromes first differ
-first-lit : (B : Board) (S H : Set) (l : List ℕ) → B .vertices ≤ length l →
-    Holds (λ v. S v ⊕ metBy (B .ends) H (edges B) v) (B .vertices) l →
-    firstUpTo (length (take (B .vertices) l)) (λ i. ltb 0 (getD (take (B .vertices) l) i 0)) ≡ differs B S H
+first-lit : (B : Board) (S H : Set) (l : List ℕ) → Bits (B .vertices) l →
+    ((v : ℕ) → v < B .vertices → ones l v ≡ S v ⊕ metBy (B .ends) H (edges B) v) →
+    firstUpTo (length (take (B .vertices) l)) (above 0 (take (B .vertices) l)) ≡ differs B S H
 unfolding differs syndrome
-first-lit B S H l long w =
-    rw (length-take-le (B .vertices) l long)
-    (first-cong (B .vertices) (λ i. ltb 0 (getD (take (B .vertices) l) i 0)) (λ v. metBy (B .ends) H (edges B) v ⊕ S v)
-    (λ i h. ap (λ x. ltb 0 x) (getD-take (B .vertices) l i 0 h ∙ w .at i h) ∙ bit-lit _ ∙ xor-comm (S i) _))
+first-lit B S H l b at =
+    rw (length-take-le (B .vertices) l (omega arith))
+    (first-cong (B .vertices) (above 0 (take (B .vertices) l)) (λ v. metBy (B .ends) H (edges B) v ⊕ S v)
+    (λ v h.
+    ap (λ x. ltb 0 x) (getD-take (B .vertices) l v 0 h)
+    ∙ lit (getD l v 0) (b .small v h)
+    ∙ at v h
+    ∙ xor-comm (S v) (metBy (B .ends) H (edges B) v)))
 
--- the syndrome put, flipped by every edge that is handed in
-pub flipped-differs : (B : Board) (syndrome handed correction l l′ : List ℕ) {o : Option ℕ} → Judgeable B syndrome handed correction →
-    Holds (ones syndrome) (B .vertices) l →
-    Flipped (metBy (B .ends) (ones handed) (length handed)) (B .vertices) l l′ →
-    o ≡ firstUpTo (length (take (B .vertices) l′)) (λ i. ltb 0 (getD (take (B .vertices) l′) i 0)) →
-    differs B (ones syndrome) (ones handed) ≡ o
-flipped-differs B syndrome handed correction l l′ j w f q =
-    sym
-    (q
-    ∙ first-lit B (ones syndrome) (ones handed) l′ (omega (arith, f .bits .long, f .bits .limit))
-    (subst (λ m. Holds (λ v. ones syndrome v ⊕ metBy (B .ends) (ones handed) m v) (B .vertices) l′) (j .handed-bytes .count)
-    (f .holds (ones syndrome) w)))
+module _ (B : Board) (syndrome handed correction : List ℕ) (j : Judgeable B syndrome handed correction) where
+  -- each byte of the handed-in set is that of an edge within the board
+  pub handed-inside : EndsWithin (B .vertices) (length handed) (B .ends)
+  handed-inside = rw (j .handed-bytes .count) (j .inside)
 
--- a valid board's edges
-pub edges-of : (B : Board) (handed : List ℕ) → Valid B → ValidBytes (edges B) handed → Edges (B .vertices) (B .ends) handed
-edges-of B handed valid bytes =
-    record {
-      few = omega (arith, bytes .count, valid .edge-limit);
-      edge = λ e h. one e (omega (arith, bytes .count)) h;
-    }
-  where
-    one : (e : ℕ) → e < edges B → e < length handed → EdgeOf (B .vertices) (B .ends) handed e
-    one e h k =
-        record {
-          handed-in = k;
-          second-there = omega (arith, valid .two-ends);
-          first-below = valid .first-in-range e h;
-          second-below = valid .second-in-range e h;
-        }
+  -- the syndrome put, flipped by every edge that is handed in
+  pub flipped-differs : (d k l : List ℕ) {o : Option ℕ} → k ≡ copied syndrome d (B .vertices) →
+      Flipped (metBy (B .ends) (ones handed) (length handed)) (B .vertices) k l →
+      o ≡ firstUpTo (length (take (B .vertices) l)) (above 0 (take (B .vertices) l)) →
+      differs B (ones syndrome) (ones handed) ≡ o
+  flipped-differs d k l copy f q =
+      sym
+      (q
+      ∙ first-lit B (ones syndrome) (ones handed) l (f .bits)
+      (λ v h.
+      f .at v h
+      ∙ ap (λ b. b ⊕ metBy (B .ends) (ones handed) (length handed) v) (loaded-ones (B .vertices) syndrome d k (j .syndrome-bytes) copy v h)
+      ∙ ap (λ m. ones syndrome v ⊕ metBy (B .ends) (ones handed) m v) (j .handed-bytes .count)))
 
 -- off, same and wound by what was found
 module _ (B : Board) (S C H : Set) where
@@ -71,15 +72,12 @@ module _ (B : Board) (S C H : Set) where
   unfolding judged
   judged-off p = rw p
 
-  judged-marks : {x : ℕ} → differs B S H ≡ none →
-      x ≡ bit (crossedA (B .marks) H C (edges B)) + 2 * bit (crossedB (B .marks) H C (edges B)) → judged B S C H ≡ compared x
+  judged-marks : {x : ℕ} → differs B S H ≡ none → x ≡ crossedBy (B .marks) (together H C) → judged B S C H ≡ compared x
   unfolding judged crossings
   judged-marks p q = rw (p, q)
 
-  pub judged-same : {x : ℕ} → differs B S H ≡ none →
-      x ≡ bit (crossedA (B .marks) H C (edges B)) + 2 * bit (crossedB (B .marks) H C (edges B)) → x ≡ 0 → judged B S C H ≡ Same
+  pub judged-same : {x : ℕ} → differs B S H ≡ none → x ≡ crossedBy (B .marks) (together H C) → x ≡ 0 → judged B S C H ≡ Same
   judged-same p q z = judged-marks p q ∙ rw z
 
-  pub judged-wound : {x : ℕ} → differs B S H ≡ none →
-      x ≡ bit (crossedA (B .marks) H C (edges B)) + 2 * bit (crossedB (B .marks) H C (edges B)) → (x ≡ 0 → ⊥) → judged B S C H ≡ Wound x
+  pub judged-wound : {x : ℕ} → differs B S H ≡ none → x ≡ crossedBy (B .marks) (together H C) → (x ≡ 0 → ⊥) → judged B S C H ≡ Wound x
   judged-wound {x} p q z = judged-marks p q ∙ rw (ne-eqb x 0 z)

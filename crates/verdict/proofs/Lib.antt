@@ -1,6 +1,6 @@
-mod Answers
-mod Copies
-mod Crossed
-mod Flips
+mod ByteFlips
+mod CrossingCounts
 mod Judged
-mod Sound
+mod LoadedBytes
+mod SoundVerdicts
+mod VerdictAnswers

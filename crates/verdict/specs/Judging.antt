@@ -4,10 +4,11 @@ use mathlib.Core.List.{List}
 use Prim.Native.Nat.{ℕ}
 use lib.ListN.{length}
 use mathlib.Core.Path.{_≡_}
-use Rattle.model.specs.Board.{Board, Sheet, Valid, ValidBytes, ValidSheet, edges}
+use Rattle.model.specs.Board.{Board, Sheet, Inside, ValidBytes, ValidSheet, edges}
 
+-- the ends lie on the board, and every byte of the syndrome and of the two sets is 0 or 1
 pub record Judgeable (B : Board) (syndrome handed correction : List ℕ) : Type 0 where
-  pub board : Valid B
+  pub inside : Inside B
   pub syndrome-bytes : ValidBytes (B .vertices) syndrome
   pub handed-bytes : ValidBytes (edges B) handed
   pub correction-bytes : ValidBytes (edges B) correction

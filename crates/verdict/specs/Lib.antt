@@ -1,3 +1,3 @@
+pub mod CrossingParities
 pub mod Judging
-pub mod Marks
-pub mod Parity
+pub mod VertexParities

@@ -4,20 +4,15 @@ mod difference;
 mod judge;
 
 use crate::judge::judge;
-use board::lent::check_verdict;
 use board::outcome::Check;
+use board::tests::check_verdict;
 use decoder::decode;
 use model::answers::Decoded;
 use model::answers::Verdict;
 use model::limits::EDGES;
-ghost use mathlib.Core.Path.{_≡_};
-ghost use mathlib.Core.Option.{none};
-ghost use Rattle.model.specs.Sums.{ones};
-ghost use Rattle.model.specs.Decoding.{corrected};
-ghost use Rattle.model.specs.Verdict.{SoundVerdict};
-ghost use Rattle.model.specs.Refusals.{verdictRefusal};
-ghost use Rattle.model.specs.Outcomes.{Judges};
 ghost use Rattle.model.specs.Board.{boardOf, sheetOf};
+ghost use Rattle.model.specs.Lent.{before, sheetLent};
+ghost use Rattle.model.specs.Outcomes.{Judges, JudgesSoundly};
 ghost use Rattle.verdict.specs.Judging.{Comparable};
 
 // The verdict once its own tests have passed: decoding's refusal, or the comparison with the correction that it wrote.
@@ -31,8 +26,9 @@ fn compare(
     support: &mut [u8],
     correction: &mut [u8],
 ) -> Verdict
-    requires { ⌜ Comparable (sheetOf (boardOf vertices (now ends) (now marks)) (now syndrome) (now loss)) (now handed) (now support) (now correction) ⌝ }
-    ensures { λ r. ⌜ Judges (sheetOf (boardOf vertices (now (ends .entry)) (now (marks .entry))) (now (syndrome .entry)) (now (loss .entry))) (now (handed .entry)) r ⌝ }
+    requires { ⌜ Comparable (sheetOf (boardOf vertices (now ends) (now marks)) (now syndrome) (now loss))
+        (now handed) (now support) (now correction) ⌝ }
+    ensures { λ r. ⌜ Judges (sheetLent vertices ends marks syndrome loss) (before handed) r ⌝ }
 {
     let decoded = decode(vertices, ends, marks, syndrome, loss, support, correction);
     if let Decoded::Refused(refusal) = decoded {
@@ -50,8 +46,8 @@ pub fn verdict(
     loss: &[u8],
     handed: &[u8],
 ) -> Verdict
-    ensures answer { λ r. ⌜ Judges (sheetOf (boardOf vertices (now (ends .entry)) (now (marks .entry))) (now (syndrome .entry)) (now (loss .entry))) (now (handed .entry)) r ⌝ }
-    ensures sound { λ r. ⌜ (verdictRefusal (sheetOf (boardOf vertices (now (ends .entry)) (now (marks .entry))) (now (syndrome .entry)) (now (loss .entry))) (now (handed .entry)) ≡ none → SoundVerdict (boardOf vertices (now (ends .entry)) (now (marks .entry))) (ones (now (syndrome .entry))) (ones (now (loss .entry))) (corrected (sheetOf (boardOf vertices (now (ends .entry)) (now (marks .entry))) (now (syndrome .entry)) (now (loss .entry)))) (ones (now (handed .entry))) r) ⌝ }
+    ensures answer { λ r. ⌜ Judges (sheetLent vertices ends marks syndrome loss) (before handed) r ⌝ }
+    ensures sound { λ r. ⌜ JudgesSoundly (sheetLent vertices ends marks syndrome loss) (before handed) r ⌝ }
 {
     if let Check::Failed(refusal) = check_verdict(vertices, ends, marks, syndrome, loss, handed) {
         return Verdict::Refused(refusal);

@@ -1,11 +1,12 @@
 -- `decode` meets both of its promises. Assumes nothing.
 use mathlib.Core.Path.{_≡_, sym, ap, _∙_}
 use mathlib.Core.Option.{none}
-use Rattle.model.specs.Refusals.{decodeRefusal}
-use Rattle.board.specs.Outcome.{testOf}
-use Rattle.model.specs.Board.{boardOf, sheetOf}
-use Rattle.decoder.proofs.DecodeLaws.{refuses, parts-lent, shows-odd, startable, runnable, peelable, keyed}
 use borrow.Author.Needs.{needs}
+use Rattle.model.specs.Board.{boardOf, sheetOf, edgeLimit}
+use Rattle.model.specs.Refusals.{decodeRefusal}
+use Rattle.model.proofs.ListLaws.{front-long}
+use Rattle.board.specs.Checks.{testOf}
+use Rattle.decoder.proofs.DecodeLaws.{refuses, few, keyable, fits, arrays-long, copyable, decodes}
 use Rattle.decoder.proofs.decode.Statement.{statement}
 use Rattle.decoder.proofs.decode.Tie as tie
 
@@ -35,11 +36,62 @@ passed : (c : tie.After-enum-told)
     none ≡ decodeRefusal (sheetOf (boardOf (a .vertices) (a .ends .now) (a .marks .now)) (a .syndrome .now) (a .loss .now)) (a .support .now) (a .correction .now)
 passed c = ap testOf (sym (c .enum-told .given .1)) ∙ c .before .before .check-decode .ensures
 
-first-odd-requires : tie.Need-first-odd-requires
-first-odd-requires c κs = parts-lent _ _ _ _ _ _ _ (passed c)
+array-borrow-prefix-new-support : tie.Need-array-borrow-prefix-new-support
+array-borrow-prefix-new-support c = few _ _ _ _ _ _ _ (passed c)
 
-enum-known-v : tie.Need-enum-known-v
-enum-known-v c = search needs
+slice-aggregate-key : tie.Need-slice-aggregate-key
+slice-aggregate-key c = sym (front-long _ edgeLimit 0 (few _ _ _ _ _ _ _ (passed (c .before))))
+
+array-borrow-prefix-new-correction : tie.Need-array-borrow-prefix-new-correction
+array-borrow-prefix-new-correction c = few _ _ _ _ _ _ _ (passed (c .before))
+
+slice-aggregate-key-2 : tie.Need-slice-aggregate-key-2
+slice-aggregate-key-2 c = sym (front-long _ edgeLimit 0 (few _ _ _ _ _ _ _ (passed (c .before .before))))
+
+key-requires : tie.Need-key-requires
+key-requires c κs =
+    let ok = passed (c .before .before) in
+    let long = front-long _ edgeLimit 0 (few _ _ _ _ _ _ _ ok) in
+    keyable _ _ _ _ _ _ _ ok _ _ long long
+
+written-requires : tie.Need-written-requires
+written-requires c κs = search needs
+
+slice-aggregate-copy-bytes : tie.Need-slice-aggregate-copy-bytes
+slice-aggregate-copy-bytes c =
+    let keyed = c .before .before .before .before in
+    let ok = passed (keyed .before .before .before) in
+    let front = front-long _ edgeLimit 0 (few _ _ _ _ _ _ _ ok) in
+    sym (arrays-long _ _ _ _ _ _ _ ok _ _ _ _ _ front front (keyed .key .ensures) .0)
+
+copy-bytes-requires : tie.Need-copy-bytes-requires
+copy-bytes-requires c κs =
+    let counted = c .before .before in
+    let keyed = counted .before .before .before in
+    let ok = passed (keyed .before .before .before) in
+    let front = front-long _ edgeLimit 0 (few _ _ _ _ _ _ _ ok) in (
+      copyable _ _ _ _ _ _ _ ok _ _ _ _ _ _ front front (keyed .key .ensures) (counted .written .ensures) .0,
+      fits _ _ _ _ _ _ _ ok (keyed .key .result) _ (counted .written .ensures) .0,
+    )
+
+slice-aggregate-copy-bytes-2 : tie.Need-slice-aggregate-copy-bytes-2
+slice-aggregate-copy-bytes-2 c =
+    let first = c .before .before .before in
+    let keyed = first .before .before .before .before .before .before in
+    let ok = passed (keyed .before .before .before) in
+    let front = front-long _ edgeLimit 0 (few _ _ _ _ _ _ _ ok) in
+    sym (arrays-long _ _ _ _ _ _ _ ok _ _ _ _ _ front front (keyed .key .ensures) .1)
+
+copy-bytes-requires-2 : tie.Need-copy-bytes-requires-2
+copy-bytes-requires-2 c κs =
+    let first = c .before .before .before .before in
+    let counted = first .before .before .before in
+    let keyed = counted .before .before .before in
+    let ok = passed (keyed .before .before .before) in
+    let front = front-long _ edgeLimit 0 (few _ _ _ _ _ _ _ ok) in (
+      copyable _ _ _ _ _ _ _ ok _ _ _ _ _ _ front front (keyed .key .ensures) (counted .written .ensures) .1,
+      fits _ _ _ _ _ _ _ ok (keyed .key .result) _ (counted .written .ensures) .1,
+    )
 
 same-length-3 : tie.Need-same-length-3
 same-length-3 c = search needs
@@ -49,41 +101,14 @@ same-length-4 c = search needs
 
 returns-2 : tie.Need-returns-2
 returns-2 c =
-    let looked = c .before .before .before in
-    shows-odd _ _ _ _ _ _ _ (passed (looked .before)) _ (c .before .v .given .1) (looked .first-odd .ensures)
-
-enum-told-2 : tie.Need-enum-told-2
-enum-told-2 c = search needs
-
-start-requires : tie.Need-start-requires
-start-requires c κs = startable _ _ _ _ _ _ _ (passed (c .before .before .before .before)) (c .before .enum-told2 .given .1) (c .before .before .before .first-odd .ensures)
-
-run-requires : tie.Need-run-requires
-run-requires c κs =
-    let started = c .before .before .before in
-    let looked = started .before .before in
-    runnable _ _ _ _ _ _ _ (passed (looked .before .before .before)) (looked .enum-told2 .given .1) (looked .before .before .first-odd .ensures) _ _ (started .start .ensures)
-
-peel-requires : tie.Need-peel-requires
-peel-requires c κs =
-    let ran = c .before .before .before .before in
-    let started = ran .before .before .before .before in
-    let looked = started .before .before in
-    peelable _ _ _ _ _ _ _ (passed (looked .before .before .before)) (looked .enum-told2 .given .1) (looked .before .before .first-odd .ensures) _ _ (started .start .ensures) _ _ (ran .run .ensures)
-
-same-length-5 : tie.Need-same-length-5
-same-length-5 c = search needs
-
-same-length-6 : tie.Need-same-length-6
-same-length-6 c = search needs
-
-returns-3 : tie.Need-returns-3
-returns-3 c =
-    let peeled = c .before .before in
-    let ran = peeled .before .before .before .before .before in
-    let started = ran .before .before .before .before in
-    let looked = started .before .before in
-    keyed _ _ _ _ _ _ _ (passed (looked .before .before .before)) (looked .enum-told2 .given .1) (looked .before .before .first-odd .ensures) _ _ (started .start .ensures) _ _ (ran .run .ensures) _ _ (peeled .peel .ensures)
+    let second = c .before .before in
+    let first = second .before .before .before .before .before in
+    let counted = first .before .before .before in
+    let keyed = counted .before .before .before in
+    let ok = passed (keyed .before .before .before) in
+    let front = front-long _ edgeLimit 0 (few _ _ _ _ _ _ _ ok) in
+    rw (first .copy-bytes .ensures, second .copy-bytes2 .ensures)
+    (decodes _ _ _ _ _ _ _ ok _ _ _ _ _ _ _ _ front front (keyed .key .ensures) (counted .written .ensures))
 
 pub decode-spec : {M : Type 1} → statement M
 decode-spec =
@@ -95,15 +120,16 @@ decode-spec =
     same-length-2
     returns
     enum-told
-    first-odd-requires
-    enum-known-v
+    array-borrow-prefix-new-support
+    slice-aggregate-key
+    array-borrow-prefix-new-correction
+    slice-aggregate-key-2
+    key-requires
+    written-requires
+    slice-aggregate-copy-bytes
+    copy-bytes-requires
+    slice-aggregate-copy-bytes-2
+    copy-bytes-requires-2
     same-length-3
     same-length-4
-    returns-2
-    enum-told-2
-    start-requires
-    run-requires
-    peel-requires
-    same-length-5
-    same-length-6
-    returns-3)
+    returns-2)

@@ -1,6 +1,7 @@
 -- `distance_sheets::board` is safe and ends. Assumes nothing.
+use mathlib.Core.Path.{sym}
 use borrow.Author.Needs.{needs}
-use Rattle.distance_sheets.proofs.Fronts.{front}
+use Rattle.model.proofs.ListLaws.{front-long}
 use Rattle.distance_sheets.proofs.board.Statement.{statement}
 use Rattle.distance_sheets.proofs.board.Tie as tie
 
@@ -8,19 +9,19 @@ array-borrow-prefix-first : tie.Need-array-borrow-prefix-first
 array-borrow-prefix-first c = search needs
 
 slice-aggregate-show-read : tie.Need-slice-aggregate-show-read
-slice-aggregate-show-read c = front 16 0 _ (c .before .before .before .before .pre .0)
+slice-aggregate-show-read c = sym (front-long _ 16 0 (c .before .before .before .before .pre .0))
 
 array-borrow-prefix-second : tie.Need-array-borrow-prefix-second
 array-borrow-prefix-second c = search needs
 
 slice-aggregate-show-read-2 : tie.Need-slice-aggregate-show-read-2
-slice-aggregate-show-read-2 c = front 8 0 _ (c .before .before .before .before .before .pre .1)
+slice-aggregate-show-read-2 c = sym (front-long _ 8 0 (c .before .before .before .before .before .pre .1))
 
 array-borrow-prefix-third : tie.Need-array-borrow-prefix-third
 array-borrow-prefix-third c = search needs
 
 slice-aggregate-show-read-3 : tie.Need-slice-aggregate-show-read-3
-slice-aggregate-show-read-3 c = front 8 7 _ (c .before .before .before .before .before .before .pre .1)
+slice-aggregate-show-read-3 c = sym (front-long _ 8 7 (c .before .before .before .before .before .before .pre .1))
 
 show-read-requires : tie.Need-show-read-requires
 show-read-requires c κs = search needs

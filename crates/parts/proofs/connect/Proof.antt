@@ -3,6 +3,7 @@ use Prim.Native.Nat.{_≤_, _-_}
 use mathlib.Core.Path.{_≡_}
 use native.Mathlib.Omega.{arith}
 use borrow.Author.Needs.{needs}
+use Rattle.model.specs.Board.{vertexLimit}
 use Rattle.model.specs.Refusals.{edgesOf}
 use Rattle.parts.specs.Connection.{ConnectsUpTo}
 use Rattle.parts.proofs.Connecting.{fresh-room, connects-none, connects-more, connects-whole}
@@ -16,35 +17,26 @@ abbrev μ-loop : tie.MeasureT-loop
 μ-loop vertices ends parent₀ size₀ edges e₀ parent size e = edges - e
 
 alone-requires : tie.Need-alone-requires Inv-loop μ-loop
-alone-requires c κs = let limit = c .before .before .before .pre .limit in fresh-room 1024 limit limit
+alone-requires c κs = let limit = c .before .before .before .pre .vertex-limit in fresh-room vertexLimit limit limit
 
 loop-holds : tie.Need-loop-holds Inv-loop μ-loop
 loop-holds c = (search needs, connects-none (c .alone .ensures))
 
-mul-i : tie.Need-mul-i Inv-loop μ-loop
-mul-i c = search needs
+cast-number : tie.Need-cast-number Inv-loop μ-loop
+cast-number c = search needs
 
-mul-a : tie.Need-mul-a Inv-loop μ-loop
-mul-a c = search needs
+first-end-requires : tie.Need-first-end-requires Inv-loop μ-loop
+first-end-requires c κs = search needs
 
-shared-slice-read-a : tie.Need-shared-slice-read-a Inv-loop μ-loop
-shared-slice-read-a c = search needs
-
-add-b : tie.Need-add-b Inv-loop μ-loop
-add-b c = search needs
-
-mul-b : tie.Need-mul-b Inv-loop μ-loop
-mul-b c = search needs
-
-shared-slice-read-b : tie.Need-shared-slice-read-b Inv-loop μ-loop
-shared-slice-read-b c = search needs
+second-end-requires : tie.Need-second-end-requires Inv-loop μ-loop
+second-end-requires c κs = search needs
 
 join-requires : tie.Need-join-requires Inv-loop μ-loop
 join-requires c κs =
     let turn = c .before .before .before .before in
     let start = turn .before .before .before .before .before .before in
-    let first = start .pre .first _ (turn .loop-test .taken) in
-    let second = start .pre .second _ (turn .loop-test .taken) in
+    let first = start .pre .first-in-range _ (turn .loop-test .taken) in
+    let second = start .pre .second-in-range _ (turn .loop-test .taken) in
     record {
       count = start .args .vertices;
       trees = turn .before .loop .inv .1 .trees;
@@ -60,14 +52,20 @@ loop-less c = search needs
 
 loop-again : tie.Need-loop-again Inv-loop μ-loop
 loop-again c =
-    let turn = c .before .before .before .before .before in
-    let w = turn .before .before .before .before .before .before .pre in
-    (search needs, connects-more w (turn .loop-test .taken) (turn .before .loop .inv .1) (c .join .ensures))
+    let second = c .before .before .before in
+    let first = second .before in
+    let turn = first .before in
+    let start = turn .before .before .before .before .before .before in (
+      search needs,
+      connects-more (start .pre) (turn .loop-test .taken) (turn .before .loop .inv .1)
+          (first .first-end .ensures) (second .second-end .ensures) (c .join .ensures),
+    )
 
 returns : tie.Need-returns Inv-loop μ-loop
 returns c =
     let l = c .before .loop in
-    let done : l .e ≡ edgesOf (c .before .before .before .before .before .before .args .ends .now) = omega arith in
+    let start = c .before .before .before .before .before .before in
+    let done : l .e ≡ edgesOf (start .args .ends .now) = omega arith in
     connects-whole (rw done at (l .inv .1))
 
 pub connect-spec : {M : Type 1} → statement M
@@ -78,12 +76,9 @@ connect-spec =
     μ-loop
     alone-requires
     loop-holds
-    mul-i
-    mul-a
-    shared-slice-read-a
-    add-b
-    mul-b
-    shared-slice-read-b
+    cast-number
+    first-end-requires
+    second-end-requires
     join-requires
     add-e
     loop-less

@@ -3,7 +3,7 @@ use Prim.Native.Nat.{_≤_, _-_}
 use borrow.Author.Needs.{needs}
 use borrow.Author.Tests.{eq-eqb, ne-eqb}
 use Rattle.board.proofs.Searching.{Passed, passed-none, passed-more, ends-at, ends-nowhere}
-use Rattle.parts.specs.Parity.{marked}
+use Rattle.parts.specs.RootParities.{marked}
 use Rattle.parts.proofs.Rooting.{root-limited}
 use Rattle.parts.proofs.first_marked.Statement.{statement}
 use Rattle.parts.proofs.first_marked.Tie as tie
@@ -17,8 +17,8 @@ abbrev μ-loop : tie.MeasureT-loop
 loop-holds : tie.Need-loop-holds Inv-loop μ-loop
 loop-holds c = (passed-none _, search needs)
 
-cast-vertex : tie.Need-cast-vertex Inv-loop μ-loop
-cast-vertex c = search needs
+cast-number : tie.Need-cast-number Inv-loop μ-loop
+cast-number c = search needs
 
 root-of-requires : tie.Need-root-of-requires Inv-loop μ-loop
 root-of-requires c κs = search needs
@@ -32,8 +32,9 @@ element-copy-out-if1 c =
     root-limited (turn .before .before .pre .rooted) (turn .loop-test .taken) (c .before .root-of .ensures)
 
 returns : tie.Need-returns Inv-loop μ-loop
-returns c = ends-at _ (c .before .before .before .before .before .loop .inv .0) (search needs)
-    (rw (← c .before .before .before .root-of .ensures) (eq-eqb _ _ (c .if1 .taken)))
+returns c =
+    let found = c .before .before .before in
+    ends-at _ (found .before .before .loop .inv .0) (search needs) (rw (← found .root-of .ensures) (eq-eqb _ _ (c .if1 .taken)))
 
 add-next : tie.Need-add-next Inv-loop μ-loop
 add-next c = search needs
@@ -42,11 +43,11 @@ loop-less : tie.Need-loop-less Inv-loop μ-loop
 loop-less c = search needs
 
 loop-again : tie.Need-loop-again Inv-loop μ-loop
-loop-again c = (
-  passed-more (c .before .before .before .before .before .loop .inv .0)
-      (rw (← c .before .before .before .root-of .ensures) (ne-eqb _ _ (c .if1 .left))),
-  search needs,
-)
+loop-again c =
+    let found = c .before .before .before in (
+      passed-more (found .before .before .loop .inv .0) (rw (← found .root-of .ensures) (ne-eqb _ _ (c .if1 .left))),
+      search needs,
+    )
 
 returns-2 : tie.Need-returns-2 Inv-loop μ-loop
 returns-2 c = ends-nowhere _ (c .before .loop .inv .0) (c .loop-test .left)
@@ -58,7 +59,7 @@ first-marked-spec =
     Inv-loop
     μ-loop
     loop-holds
-    cast-vertex
+    cast-number
     root-of-requires
     cast-if1
     element-copy-out-if1

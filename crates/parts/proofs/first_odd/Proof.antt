@@ -10,16 +10,18 @@ connect-requires c κs = search needs
 
 parities-requires : tie.Need-parities-requires
 parities-requires c κs =
-    rw (c .before .before .before .before .pre .bytes .count) (c .before .connect .ensures .rooted)
+    let connected = c .before in
+    rw (connected .before .before .before .pre .bytes .count) (connected .connect .ensures .rooted)
 
 first-marked-requires : tie.Need-first-marked-requires
 first-marked-requires c κs = search needs
 
 returns : tie.Need-returns
 returns c =
-    let k = c .before .before .before in
-    let start = k .before .before .before .before .before in
-    first-odd (k .before .before .connect .ensures) (rw (start .pre .bytes .count) at (k .parities .ensures)) (c .first-marked .ensures)
+    let counted = c .before .before .before in
+    let connected = counted .before .before in
+    let start = connected .before .before .before in
+    first-odd (connected .connect .ensures) (rw (start .pre .bytes .count) at (counted .parities .ensures)) (c .first-marked .ensures)
 
 pub first-odd-spec : {M : Type 1} → statement M
 first-odd-spec =

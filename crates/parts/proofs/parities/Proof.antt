@@ -6,7 +6,7 @@ use native.Mathlib.Omega.{arith}
 use borrow.Author.Needs.{needs}
 use lib.ListN.{length}
 use Rattle.model.specs.Board.{vertexLimit}
-use Rattle.parts.specs.Parity.{Parities}
+use Rattle.parts.specs.RootParities.{Parities}
 use Rattle.parts.proofs.Rooting.{root-limited}
 use Rattle.parts.proofs.Flipping.{parities-none, parity-small, parities-flip, parities-pass}
 use Rattle.parts.proofs.parities.Statement.{statement}
@@ -19,7 +19,7 @@ abbrev μ-loop : tie.MeasureT-loop
 μ-loop parent syndrome odd₀ v₀ odd v = length syndrome - v
 
 loop-holds : tie.Need-loop-holds Inv-loop μ-loop
-loop-holds c = (search needs, parities-none 1024 refl)
+loop-holds c = (search needs, parities-none vertexLimit refl)
 
 shared-slice-read-if1 : tie.Need-shared-slice-read-if1 Inv-loop μ-loop
 shared-slice-read-if1 c = search needs

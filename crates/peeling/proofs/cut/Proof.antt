@@ -1,9 +1,9 @@
 -- `peeling::cut` meets its contract, in each of its three cases. Assumes nothing.
 use native.Mathlib.Omega.{arith}
+use borrow.Author.Needs.{needs}
 use borrow.Author.Tests.{not-true, not-false}
 use Rattle.peeling.proofs.FlipLaws.{all-flippable, still-flippable}
 use Rattle.peeling.proofs.CutLaws.{cut-none, cut-even, cut-odd}
-use borrow.Author.Needs.{needs}
 use Rattle.peeling.proofs.cut.Statement.{statement}
 use Rattle.peeling.proofs.cut.Tie as tie
 
@@ -32,38 +32,35 @@ element-copy-out-if2 c =
 returns-2 : tie.Need-returns-2
 returns-2 c = cut-even (c .before .before .if1 .left) (not-true _ (c .if2 .taken))
 
-mul-i : tie.Need-mul-i
-mul-i c = search needs
+first-end-requires : tie.Need-first-end-requires
+first-end-requires c κs = search needs
 
-mul-a : tie.Need-mul-a
-mul-a c = search needs
-
-shared-slice-read-a : tie.Need-shared-slice-read-a
-shared-slice-read-a c = search needs
-
-add-b : tie.Need-add-b
-add-b c = search needs
-
-mul-b : tie.Need-mul-b
-mul-b c = search needs
-
-shared-slice-read-b : tie.Need-shared-slice-read-b
-shared-slice-read-b c = search needs
+second-end-requires : tie.Need-second-end-requires
+second-end-requires c κs = search needs
 
 flip-requires : tie.Need-flip-requires
 flip-requires c κs =
-    let pre = c .before .before .before .before .before .before .before .before .before .pre in
-    all-flippable (pre .flippable) _ (omega (arith, pre .first, pre .second))
+    let first = c .before .before in
+    let pre = first .before .before .before .before .before .before .before .pre in
+    all-flippable (pre .flippable) _ (rw (first .first-end .ensures) (pre .board .first-in-range _ (pre .edge)))
 
 flip-requires-2 : tie.Need-flip-requires-2
 flip-requires-2 c κs =
-    let pre = c .before .before .before .before .before .before .before .before .before .before .before .pre in
-    all-flippable (still-flippable (pre .flippable) (c .before .flip .ensures .same-length)) _ (omega (arith, pre .first, pre .second))
+    let flipped = c .before in
+    let second = flipped .before .before in
+    let pre = second .before .before .before .before .before .before .before .before .pre in
+    all-flippable (still-flippable (pre .flippable) (flipped .flip .ensures .same-length)) _
+    (rw (second .second-end .ensures) (pre .board .second-in-range _ (pre .edge)))
 
 returns-3 : tie.Need-returns-3
 returns-3 c =
-    let k = c .before .before .before .before .before .before in
-    cut-odd (k .before .before .if1 .left) (not-false _ (k .if2 .left)) (c .before .before .flip .ensures) (c .flip2 .ensures)
+    let flipped = c .before .before in
+    let second = flipped .before .before in
+    let first = second .before in
+    let odd = first .before in
+    cut-odd (odd .before .before .if1 .left) (not-false _ (odd .if2 .left))
+    (rw (first .first-end .ensures) at (flipped .flip .ensures))
+    (rw (second .second-end .ensures) at (c .flip2 .ensures))
 
 pub cut-spec : {M : Type 1} → statement M
 cut-spec =
@@ -76,12 +73,8 @@ cut-spec =
     cast-if2
     element-copy-out-if2
     returns-2
-    mul-i
-    mul-a
-    shared-slice-read-a
-    add-b
-    mul-b
-    shared-slice-read-b
+    first-end-requires
+    second-end-requires
     flip-requires
     flip-requires-2
     returns-3)

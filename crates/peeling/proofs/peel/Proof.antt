@@ -2,6 +2,7 @@
 use mathlib.Core.Path.{_≡_}
 use native.Mathlib.Omega.{arith}
 use borrow.Author.Needs.{needs}
+use Rattle.model.specs.Board.{vertexLimit, edgeLimit}
 use Rattle.peeling.proofs.PeelLoop.{PeelingFrom, span-room, syndrome-flippable, from-start, from-cuttable, from-next, from-done}
 use Rattle.peeling.proofs.peel.Statement.{statement}
 use Rattle.peeling.proofs.peel.Tie as tie
@@ -16,19 +17,19 @@ abbrev μ-loop : tie.MeasureT-loop
 span-requires : tie.Need-span-requires Inv-loop μ-loop
 span-requires c κs =
     let pre = c .before .before .before .before .before .before .pre in
-    span-room 1024 4096 (pre .lent .vertex-limit) (pre .lent .edge-limit) pre
+    span-room vertexLimit edgeLimit (pre .board .vertex-limit) (pre .board .edge-limit) pre
 
 flip-syndrome-requires : tie.Need-flip-syndrome-requires Inv-loop μ-loop
 flip-syndrome-requires c κs =
     let s = c .before .before in
     let pre = s .before .before .before .before .before .before .before .pre in
-    syndrome-flippable pre (s .span .ensures) 1024 (pre .lent .vertex-limit)
+    syndrome-flippable pre (s .span .ensures) vertexLimit (pre .board .vertex-limit)
 
 loop-holds : tie.Need-loop-holds Inv-loop μ-loop
 loop-holds c =
     let s = c .before .before .before in
     let pre = s .before .before .before .before .before .before .before .pre in
-    from-start pre (s .span .ensures) 1024 (pre .lent .vertex-limit) (c .flip-syndrome .ensures)
+    from-start pre (s .span .ensures) vertexLimit (pre .board .vertex-limit) (c .flip-syndrome .ensures)
 
 sub-e : tie.Need-sub-e Inv-loop μ-loop
 sub-e c = search needs

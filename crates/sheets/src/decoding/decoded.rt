@@ -1,5 +1,5 @@
 use crate::decoding::summary::summary;
-use crate::line;
+use crate::output;
 use decoder::decode;
 use model::answers::Decoded;
 ghost use Prim.Native.Nat.{_≤_};
@@ -7,23 +7,23 @@ ghost use Prim.Native.Nat.{_≤_};
 fn answer(decoded: Decoded) {
     match decoded {
         Decoded::Key { growths, edges } => {
-            line::count(growths);
-            line::text(b" growths, ");
-            line::count(edges);
-            line::text(b" edges");
+            output::count(growths);
+            output::text(b" growths, ");
+            output::count(edges);
+            output::text(b" edges");
         }
-        Decoded::Refused(refusal) => line::refused(refusal),
+        Decoded::Refused(refusal) => output::refused(refusal),
     }
 }
 
 // What stands in a buffer: every byte, or what sums them up where they are many.
 fn buffer(bytes: &[u8]) {
     if bytes.len() == 0 {
-        line::text(b"-");
+        output::text(b"-");
     } else if bytes.len() > 20 {
         summary(bytes);
     } else {
-        line::bytes(bytes);
+        output::bytes(bytes);
     }
 }
 
@@ -38,11 +38,11 @@ pub(crate) fn show(
     correction: &mut [u8],
 ) {
     answer(decode(vertices, ends, marks, syndrome, loss, support, correction));
-    line::text(b", support ");
+    output::text(b", support ");
     buffer(support);
-    line::text(b", correction ");
+    output::text(b", correction ");
     buffer(correction);
-    line::text(b"\n");
+    output::text(b"\n");
 }
 
 // How many edges the ends stand for, but at most 20.

@@ -1,7 +1,7 @@
 // Small sheets that the marked ones do not cover.
 use crate::boards::*;
 use crate::decoding::decoded::small;
-use crate::line::name;
+use crate::output::name;
 
 // Nothing to correct: nothing grows, whatever is lost.
 fn dark() {

@@ -2,7 +2,7 @@
 use crate::decoding::decoded::show;
 use crate::decoding::large::around;
 use crate::decoding::large::every;
-use crate::line::name;
+use crate::output::name;
 
 // The path of 1,024 vertices.
 fn path(syndrome: &[u8; 1024], loss: &[u8; 1023]) {

@@ -1,7 +1,7 @@
 // The sheets m1 to m9.
 use crate::boards::*;
 use crate::decoding::decoded::small;
-use crate::line::name;
+use crate::output::name;
 
 fn ring(loss: &[u8; 4]) {
     small(4, &RING, &RING_MARKS, &[1, 0, 0, 1], loss);

@@ -3,7 +3,7 @@ use crate::boards::*;
 use crate::decoding::decoded::show;
 use crate::decoding::decoded::small;
 use crate::decoding::large::around;
-use crate::line::name;
+use crate::output::name;
 
 const LIT: [u8; 4] = [1, 0, 0, 1];
 

@@ -1,5 +1,5 @@
 // What is printed of many bytes.
-use crate::line;
+use crate::output;
 ghost use Prim.Native.Nat.{_≤_};
 
 // How many bytes hold the value.
@@ -35,13 +35,13 @@ fn digest(bytes: &[u8]) -> u32 {
 
 // How many bytes are 0, 1, 2 and 9, and the digest.
 pub(crate) fn summary(bytes: &[u8]) {
-    line::count(how_many(bytes, 0));
-    line::text(b" ");
-    line::count(how_many(bytes, 1));
-    line::text(b" ");
-    line::count(how_many(bytes, 2));
-    line::text(b" ");
-    line::count(how_many(bytes, 9));
-    line::text(b" digest ");
-    line::count(digest(bytes) as usize);
+    output::count(how_many(bytes, 0));
+    output::text(b" ");
+    output::count(how_many(bytes, 1));
+    output::text(b" ");
+    output::count(how_many(bytes, 2));
+    output::text(b" ");
+    output::count(how_many(bytes, 9));
+    output::text(b" digest ");
+    output::count(digest(bytes) as usize);
 }

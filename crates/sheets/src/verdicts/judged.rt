@@ -1,19 +1,19 @@
-use crate::line;
+use crate::output;
 use model::answers::Verdict;
 use verdict::verdict;
 
 fn answer(verdict: Verdict) {
     match verdict {
         Verdict::Off(vertex) => {
-            line::text(b"off at ");
-            line::count(vertex.0 as usize);
+            output::text(b"off at ");
+            output::count(vertex.0 as usize);
         }
-        Verdict::Same => line::text(b"same"),
+        Verdict::Same => output::text(b"same"),
         Verdict::Wound(marks) => {
-            line::text(b"wound ");
-            line::count(marks as usize);
+            output::text(b"wound ");
+            output::count(marks as usize);
         }
-        Verdict::Refused(refusal) => line::refused(refusal),
+        Verdict::Refused(refusal) => output::refused(refusal),
     }
 }
 
@@ -27,5 +27,5 @@ pub(crate) fn show(
     handed: &[u8],
 ) {
     answer(verdict(vertices, ends, marks, syndrome, loss, handed));
-    line::text(b"\n");
+    output::text(b"\n");
 }

@@ -1,6 +1,6 @@
 // Sets for the sheets m1 to m9: the correction itself, others of its kind, ones that wind with it and ones with another syndrome.
 use crate::boards::*;
-use crate::line::name;
+use crate::output::name;
 use crate::verdicts::judged::show;
 
 fn ring(loss: &[u8; 4], handed: &[u8; 4]) {

@@ -1,6 +1,6 @@
 // Each number at its limit and one past it, that the smallest number wins, then the smallest place, and that a refusal comes before off.
 use crate::boards::*;
-use crate::line::name;
+use crate::output::name;
 use crate::verdicts::judged::show;
 
 const LIT: [u8; 4] = [1, 0, 0, 1];

@@ -2,16 +2,25 @@
 -- Assumes nothing.
 use mathlib.Core.Path.{sym, ap, _∙_}
 use borrow.Author.Needs.{needs}
-use Rattle.model.specs.Packing.{packedReading, unpackedReading}
-use Rattle.table.proofs.Returned.{read-returned}
+use Rattle.model.specs.Packing.{packedReading}
+use Rattle.table.proofs.Exported.{read-exported}
 use Rattle.table.proofs.surface_read.Statement.{statement}
 use Rattle.table.proofs.surface_read.Tie as tie
 
 read-requires : tie.Need-read-requires
 read-requires c κs = search needs
 
-pack-reading-requires : tie.Need-pack-reading-requires
-pack-reading-requires c κs = search needs
+enum-known-vertices : tie.Need-enum-known-vertices
+enum-known-vertices c = search needs
+
+pack-requires : tie.Need-pack-requires
+pack-requires c κs = search needs
+
+enum-known-n : tie.Need-enum-known-n
+enum-known-n c = search needs
+
+pack-refusal-requires : tie.Need-pack-refusal-requires
+pack-refusal-requires c κs = search needs
 
 same-length : tie.Need-same-length
 same-length c = search needs
@@ -27,10 +36,44 @@ same-length-4 c = search needs
 
 returns : tie.Need-returns
 returns c =
-    let w = c .before .before .before .before .before .before .before .before .before .read .ensures in
-    let number = c .pack-reading .ensures ∙ ap packedReading (w .result) in
-    let taken = w .result ∙ sym (ap unpackedReading number ∙ read-returned _ _ _ _ _) in
-    (number, rw taken at w)
+    let met = c .before .before in
+    let answered = met .before .before .before .before .before .before .before .before .before .before in
+    read-exported (c .pack .ensures ∙ ap packedReading (sym (met .vertices .given .1))) (answered .read .ensures)
+
+same-length-5 : tie.Need-same-length-5
+same-length-5 c = search needs
+
+same-length-6 : tie.Need-same-length-6
+same-length-6 c = search needs
+
+same-length-7 : tie.Need-same-length-7
+same-length-7 c = search needs
+
+same-length-8 : tie.Need-same-length-8
+same-length-8 c = search needs
+
+returns-2 : tie.Need-returns-2
+returns-2 c =
+    let met = c .before .before in
+    let answered = met .before .before .before .before .before .before .before .before .before .before in
+    read-exported (c .pack-refusal .ensures ∙ ap packedReading (sym (met .n .given .1))) (answered .read .ensures)
 
 pub surface-read-spec : {M : Type 1} → statement M
-surface-read-spec = tie.close (tie.spec read-requires pack-reading-requires same-length same-length-2 same-length-3 same-length-4 returns)
+surface-read-spec =
+    tie.close
+    (tie.spec
+    read-requires
+    enum-known-vertices
+    pack-requires
+    enum-known-n
+    pack-refusal-requires
+    same-length
+    same-length-2
+    same-length-3
+    same-length-4
+    returns
+    same-length-5
+    same-length-6
+    same-length-7
+    same-length-8
+    returns-2)

@@ -2,16 +2,25 @@
 -- Assumes nothing.
 use mathlib.Core.Path.{sym, ap, _∙_}
 use borrow.Author.Needs.{needs}
-use Rattle.model.specs.Packing.{packedBuilt, unpackedBuilt}
-use Rattle.table.proofs.Returned.{torus-returned}
+use Rattle.model.specs.Packing.{packedBuilt}
+use Rattle.table.proofs.Exported.{torus-exported}
 use Rattle.table.proofs.surface_torus.Statement.{statement}
 use Rattle.table.proofs.surface_torus.Tie as tie
 
 torus-requires : tie.Need-torus-requires
 torus-requires c κs = search needs
 
-pack-built-requires : tie.Need-pack-built-requires
-pack-built-requires c κs = search needs
+enum-known-n : tie.Need-enum-known-n
+enum-known-n c = search needs
+
+pack-requires : tie.Need-pack-requires
+pack-requires c κs = search needs
+
+enum-known-n-2 : tie.Need-enum-known-n-2
+enum-known-n-2 c = search needs
+
+pack-refusal-requires : tie.Need-pack-refusal-requires
+pack-refusal-requires c κs = search needs
 
 same-length : tie.Need-same-length
 same-length c = search needs
@@ -21,10 +30,34 @@ same-length-2 c = search needs
 
 returns : tie.Need-returns
 returns c =
-    let w = c .before .before .before .before .before .torus .ensures in
-    let number = c .pack-built .ensures ∙ ap packedBuilt (w .result) in
-    let taken = w .result ∙ sym (ap unpackedBuilt number ∙ torus-returned _ _ _ (search needs)) in
-    (number, rw taken at w)
+    let met = c .before .before in
+    let answered = met .before .before .before .before .before .before in
+    torus-exported (search needs) (c .pack .ensures ∙ ap packedBuilt (sym (met .n .given .1))) (answered .torus .ensures)
+
+same-length-3 : tie.Need-same-length-3
+same-length-3 c = search needs
+
+same-length-4 : tie.Need-same-length-4
+same-length-4 c = search needs
+
+returns-2 : tie.Need-returns-2
+returns-2 c =
+    let met = c .before .before in
+    let answered = met .before .before .before .before .before .before in
+    torus-exported (search needs) (c .pack-refusal .ensures ∙ ap packedBuilt (sym (met .n2 .given .1))) (answered .torus .ensures)
 
 pub surface-torus-spec : {M : Type 1} → statement M
-surface-torus-spec = tie.close (tie.spec torus-requires pack-built-requires same-length same-length-2 returns)
+surface-torus-spec =
+    tie.close
+    (tie.spec
+    torus-requires
+    enum-known-n
+    pack-requires
+    enum-known-n-2
+    pack-refusal-requires
+    same-length
+    same-length-2
+    returns
+    same-length-3
+    same-length-4
+    returns-2)

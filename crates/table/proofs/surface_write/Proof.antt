@@ -1,27 +1,55 @@
--- The number is the packed answer of the definition; what it is taken apart into is what `write` answered, with the buffers that it left.
+-- The number is the packed answer of the definition; what it is taken apart into is what `write` answered, with the buffer that it left.
 -- Assumes nothing.
 use mathlib.Core.Path.{sym, ap, _∙_}
 use borrow.Author.Needs.{needs}
-use Rattle.model.specs.Packing.{packedWritten, unpackedWritten}
-use Rattle.table.proofs.Returned.{write-returned}
+use Rattle.model.specs.Packing.{packedWritten}
+use Rattle.table.proofs.Exported.{write-exported}
 use Rattle.table.proofs.surface_write.Statement.{statement}
 use Rattle.table.proofs.surface_write.Tie as tie
 
 write-requires : tie.Need-write-requires
 write-requires c κs = search needs
 
-pack-written-requires : tie.Need-pack-written-requires
-pack-written-requires c κs = search needs
+enum-known-n : tie.Need-enum-known-n
+enum-known-n c = search needs
+
+pack-requires : tie.Need-pack-requires
+pack-requires c κs = search needs
+
+enum-known-n-2 : tie.Need-enum-known-n-2
+enum-known-n-2 c = search needs
+
+pack-refusal-requires : tie.Need-pack-refusal-requires
+pack-refusal-requires c κs = search needs
 
 same-length : tie.Need-same-length
 same-length c = search needs
 
 returns : tie.Need-returns
 returns c =
-    let w = c .before .before .before .write .ensures in
-    let number = c .pack-written .ensures ∙ ap packedWritten (w .result) in
-    let taken = w .result ∙ sym (ap unpackedWritten number ∙ write-returned _ _) in
-    (number, rw taken at w)
+    let met = c .before .before in
+    let answered = met .before .before .before .before in
+    write-exported (c .pack .ensures ∙ ap packedWritten (sym (met .n .given .1))) (answered .write .ensures)
+
+same-length-2 : tie.Need-same-length-2
+same-length-2 c = search needs
+
+returns-2 : tie.Need-returns-2
+returns-2 c =
+    let met = c .before .before in
+    let answered = met .before .before .before .before in
+    write-exported (c .pack-refusal .ensures ∙ ap packedWritten (sym (met .n2 .given .1))) (answered .write .ensures)
 
 pub surface-write-spec : {M : Type 1} → statement M
-surface-write-spec = tie.close (tie.spec write-requires pack-written-requires same-length returns)
+surface-write-spec =
+    tie.close
+    (tie.spec
+    write-requires
+    enum-known-n
+    pack-requires
+    enum-known-n-2
+    pack-refusal-requires
+    same-length
+    returns
+    same-length-2
+    returns-2)

@@ -22,22 +22,26 @@ mul-vertices : tie.Need-mul-vertices Inv-loop μ-loop
 mul-vertices c = search needs
 
 loop-holds : tie.Need-loop-holds Inv-loop μ-loop
-loop-holds c = (search needs, c .before .pre .2, filled-none _ _)
+loop-holds c = (search needs, c .before .pre .1, filled-none _ _)
+
+cast-number : tie.Need-cast-number Inv-loop μ-loop
+cast-number c =
+    let start = c .before .before .before in omega (arith, square-limit (start .args .side) (start .pre .0 .most))
+
+right-of-requires : tie.Need-right-of-requires Inv-loop μ-loop
+right-of-requires c κs = search needs
+
+below-of-requires : tie.Need-below-of-requires Inv-loop μ-loop
+below-of-requires c κs = search needs
 
 mul-i : tie.Need-mul-i Inv-loop μ-loop
 mul-i c = search needs
-
-cast-ends : tie.Need-cast-ends Inv-loop μ-loop
-cast-ends c = omega (arith, square-limit (c .before .before .before .args .side) (c .before .before .before .pre .1))
 
 mul-ends : tie.Need-mul-ends Inv-loop μ-loop
 mul-ends c = search needs
 
 slice-write-ends : tie.Need-slice-write-ends Inv-loop μ-loop
 slice-write-ends c = search needs
-
-right-of-requires : tie.Need-right-of-requires Inv-loop μ-loop
-right-of-requires c κs = search needs
 
 add-ends : tie.Need-add-ends Inv-loop μ-loop
 add-ends c = search needs
@@ -48,9 +52,6 @@ mul-ends-2 c = search needs
 slice-write-ends-2 : tie.Need-slice-write-ends-2 Inv-loop μ-loop
 slice-write-ends-2 c = simp length-set (omega arith)
 
-cast-ends-2 : tie.Need-cast-ends-2 Inv-loop μ-loop
-cast-ends-2 c = omega (arith, square-limit (c .before .before .before .before .args .side) (c .before .before .before .before .pre .1))
-
 add-ends-2 : tie.Need-add-ends-2 Inv-loop μ-loop
 add-ends-2 c = search needs
 
@@ -59,9 +60,6 @@ mul-ends-3 c = search needs
 
 slice-write-ends-3 : tie.Need-slice-write-ends-3 Inv-loop μ-loop
 slice-write-ends-3 c = simp length-set (omega arith)
-
-below-of-requires : tie.Need-below-of-requires Inv-loop μ-loop
-below-of-requires c κs = search needs
 
 add-ends-3 : tie.Need-add-ends-3 Inv-loop μ-loop
 add-ends-3 c = search needs
@@ -91,7 +89,7 @@ same-length c = search needs
 
 returns : tie.Need-returns Inv-loop μ-loop
 unfolding torusEnds
-returns c = filled-all _ (c .before .loop .inv .2) (c .before .loop .inv .1) (omega arith)
+returns c = let at = c .before .loop in filled-all _ (at .inv .2) (at .inv .1) (omega arith)
 
 pub fill-ends-spec : {M : Type 1} → statement M
 fill-ends-spec =
@@ -101,19 +99,18 @@ fill-ends-spec =
     μ-loop
     mul-vertices
     loop-holds
+    cast-number
+    right-of-requires
+    below-of-requires
     mul-i
-    cast-ends
     mul-ends
     slice-write-ends
-    right-of-requires
     add-ends
     mul-ends-2
     slice-write-ends-2
-    cast-ends-2
     add-ends-2
     mul-ends-3
     slice-write-ends-3
-    below-of-requires
     add-ends-3
     mul-ends-4
     slice-write-ends-4

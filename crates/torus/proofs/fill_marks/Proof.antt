@@ -4,6 +4,7 @@ use mathlib.Core.Path.{_≡_}
 use native.Mathlib.Omega.{arith}
 use lib.ListN.{length, length-set}
 use Rattle.model.specs.Torus.{torusMark, torusMarks}
+use Rattle.torus.proofs.Numbering.{square-limit}
 use Rattle.torus.proofs.Filling.{Filled, filled-none, filled-all}
 use Rattle.torus.proofs.Writing.{marks-more}
 use borrow.Author.Needs.{needs}
@@ -21,7 +22,11 @@ mul-vertices : tie.Need-mul-vertices Inv-loop μ-loop
 mul-vertices c = search needs
 
 loop-holds : tie.Need-loop-holds Inv-loop μ-loop
-loop-holds c = (search needs, c .before .pre .2, filled-none _ _)
+loop-holds c = (search needs, c .before .pre .1, filled-none _ _)
+
+cast-number : tie.Need-cast-number Inv-loop μ-loop
+cast-number c =
+    let start = c .before .before .before in omega (arith, square-limit (start .args .side) (start .pre .0 .most))
 
 mul-i : tie.Need-mul-i Inv-loop μ-loop
 mul-i c = search needs
@@ -60,7 +65,7 @@ same-length c = search needs
 
 returns : tie.Need-returns Inv-loop μ-loop
 unfolding torusMarks
-returns c = filled-all _ (c .before .loop .inv .2) (c .before .loop .inv .1) (omega arith)
+returns c = let at = c .before .loop in filled-all _ (at .inv .2) (at .inv .1) (omega arith)
 
 pub fill-marks-spec : {M : Type 1} → statement M
 fill-marks-spec =
@@ -70,6 +75,7 @@ fill-marks-spec =
     μ-loop
     mul-vertices
     loop-holds
+    cast-number
     mul-i
     right-mark-requires
     slice-write-marks

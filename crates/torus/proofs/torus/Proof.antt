@@ -27,10 +27,14 @@ returns c =
     }
 
 mul-vertices : tie.Need-mul-vertices
-mul-vertices c = omega (arith, square-limit (c .before .before .before .before .args .side) (ltb-false _ _ (c .if2 .left)))
+mul-vertices c =
+    let start = c .before .before .before .before in
+    omega (arith, square-limit (start .args .side) (ltb-false _ _ (c .if2 .left)))
 
 mul-if3 : tie.Need-mul-if3
-mul-if3 c = omega (arith, square-limit (c .before .before .before .before .args .side) (ltb-false _ _ (c .if2 .left)))
+mul-if3 c =
+    let start = c .before .before .before .before in
+    omega (arith, square-limit (start .args .side) (ltb-false _ _ (c .if2 .left)))
 
 mul-if4 : tie.Need-mul-if4
 mul-if4 c = search needs
@@ -38,10 +42,12 @@ mul-if4 c = search needs
 returns-2 : tie.Need-returns-2
 unfolding torusAnswer torusRefusal
 returns-2 c =
-    let a = c .before .before .before .before .before .args in
+    let not-large = c .before in
+    let not-small = not-large .before in
+    let a = not-small .before .before .before .args in
     record {
       result =
-          rw (le-leb _ _ (c .before .before .if1 .left), le-leb _ _ (ltb-false _ _ (c .before .if2 .left)))
+          rw (le-leb _ _ (not-small .if1 .left), le-leb _ _ (ltb-false _ _ (not-large .if2 .left)))
           (⊎-elim (λ w. rw (ne-eqb _ _ (w .taken)))
           (λ w. rw (eq-eqb _ _ (w .0 .left), not-true (eqb (length (now (a .marks))) (2 * (a .side * a .side))) (w .1 .taken)))
           (c .if3 .came));
@@ -54,11 +60,12 @@ fill-ends-requires c κs = search needs
 
 fill-marks-requires : tie.Need-fill-marks-requires
 fill-marks-requires c κs =
-    let on = c .before .before .before .before .before in
-    let a = on .before .before .before .before .before .before .args in (
-      search needs,
-      ltb-false _ _ (on .before .before .if2 .left),
-      eqb-true _ _ (not-false (eqb (length (now (a .marks))) (2 * (a .side * a .side))) (on .if4 .left)),
+    let passed = c .before .before .before .before .before in
+    let not-large = passed .before .before in
+    let not-small = not-large .before in
+    let a = not-small .before .before .before .args in (
+      record { least = not-small .if1 .left; most = ltb-false _ _ (not-large .if2 .left) },
+      eqb-true _ _ (not-false (eqb (length (now (a .marks))) (2 * (a .side * a .side))) (passed .if4 .left)),
     )
 
 same-length : tie.Need-same-length
@@ -70,18 +77,23 @@ same-length-2 c = search needs
 returns-3 : tie.Need-returns-3
 unfolding torusAnswer torusRefusal
 returns-3 c =
-    let on = c .before .before .before .before .before .before .before .before in
-    let a = on .before .before .before .before .before .before .args in
+    let marked = c .before .before in
+    let ended = marked .before .before .before .before in
+    let passed = ended .before .before in
+    let ends-long = passed .before in
+    let not-large = ends-long .before in
+    let not-small = not-large .before in
+    let a = not-small .before .before .before .args in
     record {
       result =
           rw (
-            le-leb _ _ (on .before .before .before .if1 .left),
-            le-leb _ _ (ltb-false _ _ (on .before .before .if2 .left)),
-            eq-eqb _ _ (on .before .if3 .left),
-            not-false (eqb (length (now (a .marks))) (2 * (a .side * a .side))) (on .if4 .left),
+            le-leb _ _ (not-small .if1 .left),
+            le-leb _ _ (ltb-false _ _ (not-large .if2 .left)),
+            eq-eqb _ _ (ends-long .if3 .left),
+            not-false (eqb (length (now (a .marks))) (2 * (a .side * a .side))) (passed .if4 .left),
           );
-      ends-filled = c .before .before .before .before .before .before .fill-ends .ensures;
-      marks-filled = c .before .before .fill-marks .ensures;
+      ends-filled = ended .fill-ends .ensures;
+      marks-filled = marked .fill-marks .ensures;
     }
 
 pub torus-spec : {M : Type 1} → statement M

@@ -1,7 +1,7 @@
 -- `union_find::join` meets its contract, in each of its three cases. Assumes nothing.
 use native.Mathlib.Omega.{arith}
 use borrow.Author.Needs.{needs}
-use Rattle.union_find.proofs.Cases.{limits, hangable, hangable-back, joins-already, joins-first, joins-second}
+use Rattle.union_find.proofs.JoinCases.{limits, hangable, hangable-back, joins-already, joins-first, joins-second}
 use Rattle.union_find.proofs.join.Statement.{statement}
 use Rattle.union_find.proofs.join.Tie as tie
 

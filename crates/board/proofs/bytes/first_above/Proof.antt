@@ -20,9 +20,6 @@ loop-holds c = (search needs, passed-none _)
 shared-slice-read-if1 : tie.Need-shared-slice-read-if1 Inv-loop μ-loop
 shared-slice-read-if1 c = search needs
 
-cast-t8 : tie.Need-cast-t8 Inv-loop μ-loop
-cast-t8 c = search needs
-
 returns : tie.Need-returns Inv-loop μ-loop
 returns c =
     ends-at _ (c .before .before .before .loop .inv .1) (search needs) (lt-ltb _ _ (c .if1 .taken))
@@ -48,7 +45,6 @@ first-above-spec =
     μ-loop
     loop-holds
     shared-slice-read-if1
-    cast-t8
     returns
     add-i
     loop-less

@@ -1,6 +1,5 @@
 -- `board::counts::check_counts` meets its contract: each return has the facts of the tests that led to it. Assumes nothing.
 use mathlib.Core.Logic.{⊎-elim}
-use borrow.Author.Needs.{needs}
 use borrow.Author.Tests.{ltb-true, ltb-false, le-leb, lt-leb, eq-eqb, ne-eqb, not-true, not-false}
 use Rattle.board.proofs.counts.check_counts.Statement.{statement}
 use Rattle.board.proofs.counts.check_counts.Tie as tie
@@ -11,9 +10,6 @@ returns c =
     (λ w. rw (lt-leb _ _ (w .taken)))
     (λ w. rw (le-leb _ _ (w .0 .left), lt-leb _ _ (ltb-true _ _ (w .1 .taken))))
     (c .if1 .came)
-
-mul-if4 : tie.Need-mul-if4
-mul-if4 c = search needs
 
 returns-2 : tie.Need-returns-2
 returns-2 c =
@@ -44,4 +40,4 @@ returns-4 c =
     )
 
 pub check-counts-spec : {M : Type 1} → statement M
-check-counts-spec = tie.close (tie.spec returns mul-if4 returns-2 returns-3 returns-4)
+check-counts-spec = tie.close (tie.spec returns returns-2 returns-3 returns-4)

@@ -37,7 +37,7 @@ more c =
     growths-left (stepped .before .before .loop .inv) (stepped .step .ensures) (not-false _ (c .before .if1 .left))
 
 add-growths : tie.Need-add-growths Inv-loop μ-loop
-add-growths c = omega (arith, more c, c .before .before .before .before .before .before .before .before .before .before .before .pre .steppable .lent .edges)
+add-growths c = omega (arith, more c, c .before .before .before .before .before .before .before .before .before .before .before .pre .steppable .lent .edge-limit)
 
 loop-less : tie.Need-loop-less Inv-loop μ-loop
 loop-less c = omega (arith, more c)

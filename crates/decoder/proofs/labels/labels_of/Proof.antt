@@ -3,6 +3,7 @@ use Prim.Native.Nat.{_≤_, _<_, _-_}
 use mathlib.Core.Path.{_≡_, refl, subst}
 use mathlib.Core.Logic.{⊎-elim}
 use native.Mathlib.Numerals.{add-one}
+use Rattle.model.specs.Board.{vertexLimit}
 use Rattle.union_find.proofs.Roots.{root-inside}
 use Rattle.decoder.specs.TreeLabels.{Names}
 use Rattle.decoder.proofs.TreeNames.{Naming, name-none, name-first, name-again}
@@ -18,7 +19,7 @@ abbrev μ-loop : tie.MeasureT-loop
 μ-loop vertices parent first₀ labels₀ v₀ first labels v = vertices - v
 
 loop-holds : tie.Need-loop-holds Inv-loop μ-loop
-loop-holds c = (search needs, name-none _ 1024 refl)
+loop-holds c = (search needs, name-none _ vertexLimit refl)
 
 cast-number : tie.Need-cast-number Inv-loop μ-loop
 cast-number c = search needs
@@ -27,7 +28,7 @@ root-of-requires : tie.Need-root-of-requires Inv-loop μ-loop
 root-of-requires c κs = search needs
 
 -- the vertex has a root within the limit
-root-below : (c : tie.After-root-of Inv-loop μ-loop) → c .root-of .result .0 < 1024
+root-below : (c : tie.After-root-of Inv-loop μ-loop) → c .root-of .result .0 < vertexLimit
 root-below c =
     let start = c .before .before .before in
     let climbs = start .pre .climbs in
@@ -75,7 +76,7 @@ loop-less c = search needs
 loop-again : tie.Need-loop-again Inv-loop μ-loop
 loop-again c =
     let at = c .before .before .before .before in
-    let h : at .loop .v < 1024 = omega (arith, c .before .before .before .loop-test .taken, at .before .pre .climbs .limit) in
+    let h : at .loop .v < vertexLimit = omega (arith, c .before .before .before .loop-test .taken, at .before .pre .climbs .limit) in
     let named = c .before .before in (
       search needs,
       rw add-one

@@ -3,6 +3,7 @@ use Prim.Native.Nat.{_≤_, _<_, _-_}
 use mathlib.Core.Path.{_≡_, refl, sym, _∙_, subst₂}
 use mathlib.Core.Logic.{⊎-elim}
 use native.Mathlib.Numerals.{add-one}
+use Rattle.model.specs.Board.{vertexLimit}
 use Rattle.decoder.specs.TreeLabels.{Marks}
 use Rattle.decoder.proofs.TreeNames.{mark-none, mark-inside, mark-outside}
 use borrow.Author.Needs.{needs}
@@ -20,7 +21,7 @@ root-of-requires : tie.Need-root-of-requires Inv-loop μ-loop
 root-of-requires c κs = search needs
 
 loop-holds : tie.Need-loop-holds Inv-loop μ-loop
-loop-holds c = (search needs, mark-none _ _ 1024 refl)
+loop-holds c = (search needs, mark-none _ _ vertexLimit refl)
 
 cast-number : tie.Need-cast-number Inv-loop μ-loop
 cast-number c = search needs
@@ -41,7 +42,7 @@ loop-again : tie.Need-loop-again Inv-loop μ-loop
 loop-again c =
     let found = c .before .before .before in
     let at = found .before .before in
-    let h : at .loop .v < 1024 = omega (arith, found .before .loop-test .taken, at .before .before .pre .rooted .climbs .limit) in (
+    let h : at .loop .v < vertexLimit = omega (arith, found .before .loop-test .taken, at .before .before .pre .rooted .climbs .limit) in (
       search needs,
       rw add-one
           (⊎-elim

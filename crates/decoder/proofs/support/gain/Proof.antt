@@ -1,9 +1,8 @@
--- `gain` meets its contract. Assumes nothing.
-use Prim.Native.Nat.{_+_}
-use mathlib.Core.Path.{ap₂}
+-- `gain` meets its contract: one end inside, both, or none. Assumes nothing.
+use Prim.Native.Nat.{_≤_}
+use native.Mathlib.Omega.{arith}
 use lib.ListN.{getD}
 use borrow.Author.Needs.{needs}
-use native.Mathlib.Omega.{arith}
 use Rattle.decoder.proofs.support.gain.Statement.{statement}
 use Rattle.decoder.proofs.support.gain.Tie as tie
 
@@ -17,27 +16,49 @@ cast-x : tie.Need-cast-x
 cast-x c = search needs
 
 element-copy-out-x : tie.Need-element-copy-out-x
-element-copy-out-x c = search needs
+element-copy-out-x c =
+    let first = c .before .before in
+    let pre = first .before .before .pre in
+    omega (arith, first .first-end .ensures, pre .lent .first-in-range _ (pre .edge))
 
 cast-y : tie.Need-cast-y
 cast-y c = search needs
 
 element-copy-out-y : tie.Need-element-copy-out-y
-element-copy-out-y c = search needs
+element-copy-out-y c =
+    let second = c .before .before .before in
+    let pre = second .before .before .before .pre in
+    omega (arith, second .second-end .ensures, pre .lent .second-in-range _ (pre .edge))
 
-add-sum : tie.Need-add-sum
-add-sum c =
-    let start = c .before .before .before .before .before .before .before in
-    omega (
-      arith,
-      start .pre .marks .small (c .before .before .before .before .before .first-end .result .0) (omega (arith, start .pre)),
-      start .pre .marks .small (c .before .before .before .before .second-end .result .0) (omega (arith, start .pre)),
+-- both marks are 0 or 1
+small : (c : tie.After-y) →
+    let second = c .before .before .before .before in
+    let first = second .before in
+    let inside = first .before .before .args .inside .now in
+    (getD inside (first .first-end .result .0) 0 ≤ 1) × (getD inside (second .second-end .result .0) 0 ≤ 1)
+small c =
+    let second = c .before .before .before .before in
+    let first = second .before in
+    let pre = first .before .before .pre in (
+      pre .marks .small _ (omega (arith, first .first-end .ensures, pre .lent .first-in-range _ (pre .edge))),
+      pre .marks .small _ (omega (arith, second .second-end .ensures, pre .lent .second-in-range _ (pre .edge))),
     )
 
 returns : tie.Need-returns
 returns c =
-    let marks = c .before .before .before .before .before .before .before .args .inside .now in
-    ap₂ (λ x y. getD marks x 0 + getD marks y 0) (c .before .before .before .before .before .first-end .ensures) (c .before .before .before .before .second-end .ensures)
+    let second = c .before .before .before .before .before in
+    rw (← second .before .first-end .ensures, ← second .second-end .ensures) (omega (arith, c .if1 .taken, small (c .before)))
+
+returns-2 : tie.Need-returns-2
+returns-2 c =
+    let second = c .before .before .before .before .before .before in
+    rw (← second .before .first-end .ensures, ← second .second-end .ensures) (omega (arith, c .if2 .taken, c .before .if1 .left))
+
+returns-3 : tie.Need-returns-3
+returns-3 c =
+    let second = c .before .before .before .before .before .before in
+    rw (← second .before .first-end .ensures, ← second .second-end .ensures)
+    (omega (arith, c .if2 .left, c .before .if1 .left, small (c .before .before)))
 
 pub gain-spec : {M : Type 1} → statement M
 gain-spec =
@@ -49,5 +70,6 @@ gain-spec =
     element-copy-out-x
     cast-y
     element-copy-out-y
-    add-sum
-    returns)
+    returns
+    returns-2
+    returns-3)

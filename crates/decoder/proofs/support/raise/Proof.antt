@@ -50,7 +50,7 @@ loop-again c =
       omega arith,
       rw add-one
           (⊎-elim
-          (λ w. rw (w .1, w .2, add-one) (raise-full _ _ _ _ _ _ _ h (at .loop .inv .1) _ _ (at .before .before .before .pre .lent .edges) lifts (w .0 .taken)))
+          (λ w. rw (w .1, w .2, add-one) (raise-full _ _ _ _ _ _ _ h (at .loop .inv .1) _ _ (at .before .before .before .pre .lent .edge-limit) lifts (w .0 .taken)))
           (λ w. rw (w .1, w .2) (raise-other _ _ _ _ _ _ _ h (at .loop .inv .1) _ _ lifts (w .0 .left)))
           (c .if1 .came)),
     )

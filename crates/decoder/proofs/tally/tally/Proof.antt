@@ -4,6 +4,7 @@ use mathlib.Core.Path.{_≡_, refl}
 use mathlib.Core.Logic.{⊎-elim}
 use native.Mathlib.Numerals.{add-one}
 use lib.ListN.{length}
+use Rattle.model.specs.Board.{vertexLimit}
 use Rattle.model.specs.Components.{label}
 use Rattle.decoder.specs.Tallies.{Tallies}
 use Rattle.decoder.proofs.Tallying.{tally-none, tally-bound, tally-member, tally-other}
@@ -19,7 +20,7 @@ abbrev μ-loop : tie.MeasureT-loop
 μ-loop labels members counts₀ v₀ counts v = length members - v
 
 loop-holds : tie.Need-loop-holds Inv-loop μ-loop
-loop-holds c = (search needs, tally-none _ _ 1024 refl)
+loop-holds c = (search needs, tally-none _ _ vertexLimit refl)
 
 shared-slice-read-if1 : tie.Need-shared-slice-read-if1 Inv-loop μ-loop
 shared-slice-read-if1 c = search needs
@@ -31,7 +32,7 @@ element-copy-out-a : tie.Need-element-copy-out-a Inv-loop μ-loop
 element-copy-out-a c = search needs
 
 -- the vertex's label is within the limit
-label-below : (c : tie.Then1 Inv-loop μ-loop) → label (c .before .before .before .before .args .labels .now) (c .before .before .before .loop .v) < 1024
+label-below : (c : tie.Then1 Inv-loop μ-loop) → label (c .before .before .before .before .args .labels .now) (c .before .before .before .loop .v) < vertexLimit
 label-below c = c .before .before .before .before .pre .inside (c .before .before .before .loop .v) (c .before .before .loop-test .taken)
 
 cast-a : tie.Need-cast-a Inv-loop μ-loop

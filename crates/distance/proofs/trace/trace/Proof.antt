@@ -1,21 +1,23 @@
 -- `distance::trace::trace` meets its contract: each turn passes one kept edge, by the laws of `Tracing`. Assumes nothing.
-use mathlib.Core.Path.{sym, ap, _∙_}
 use native.Mathlib.Omega.{arith}
 use borrow.Author.Needs.{needs}
-use lib.ListN.{length, length-replicate}
 use Rattle.distance.specs.Search.{at}
-use Rattle.distance.proofs.Tracing.{Tracing, tracing-start, kept-edge, shown-long, shown-byte, tracing-step, tracing-end}
+use Rattle.distance.proofs.Tracing.{Tracing, tracing-start, found-byte, kept-edge, kept-place, tracing-step, tracing-end}
 use Rattle.distance.proofs.trace.trace.Statement.{statement}
 use Rattle.distance.proofs.trace.trace.Tie as tie
 
 abbrev Inv-loop : tie.InvT-loop
-Inv-loop ends marks depth via shown₀ state₀ shown state = Tracing ends marks depth via (state₀ .0) (state .0) shown
+Inv-loop ends marks depth via found₀ state₀ found state = Tracing ends marks depth via (state₀ .0) (state .0) found
 
 abbrev μ-loop : tie.MeasureT-loop
-μ-loop ends marks depth via shown₀ state₀ shown state = at depth (state .0)
+μ-loop ends marks depth via found₀ state₀ found state = at depth (state .0)
+
+-- the loop's head, from where its test is taken
+abbrev head : tie.Then1 Inv-loop μ-loop → tie.At-loop Inv-loop μ-loop
+head turn = turn .before .before .before
 
 loop-holds : tie.Need-loop-holds Inv-loop μ-loop
-loop-holds c = tracing-start _ _ _ _ _ _ (c .before .before .before .pre)
+loop-holds c = tracing-start (c .before .before .before .pre)
 
 cast-if1 : tie.Need-cast-if1 Inv-loop μ-loop
 cast-if1 c = search needs
@@ -37,51 +39,43 @@ element-copy-out-kept c = search needs
 
 cast-e : tie.Need-cast-e Inv-loop μ-loop
 cast-e c =
-    let t = c .before .before .before .before .before .loop .inv in
-    let one = kept-edge _ _ _ _ _ _ _ t (omega (arith, c .before .before .if1 .taken)) in
-    omega (arith, one .edge, t .rooted .valid .edge-limit)
+    let turn = c .before .before in
+    omega (arith, kept-place (head turn .loop .inv) (omega (arith, turn .if1 .taken)))
 
-slice-read-shown : tie.Need-slice-read-shown Inv-loop μ-loop
-slice-read-shown c =
-    let t = c .before .before .before .before .before .before .loop .inv in
-    let one = kept-edge _ _ _ _ _ _ _ t (omega (arith, c .before .before .before .if1 .taken)) in
-    omega (arith, one .edge, shown-long _ _ _ _ _ _ _ t)
+element-copy-out-found : tie.Need-element-copy-out-found Inv-loop μ-loop
+element-copy-out-found c =
+    let turn = c .before .before in
+    omega (arith, kept-place (head turn .loop .inv) (omega (arith, turn .if1 .taken)))
 
-sub-shown : tie.Need-sub-shown Inv-loop μ-loop
-sub-shown c =
-    let t = c .before .before .before .before .before .before .loop .inv in
-    let one = kept-edge _ _ _ _ _ _ _ t (omega (arith, c .before .before .before .if1 .taken)) in
-    omega (arith, shown-byte _ _ _ _ _ _ _ t _ (one .edge))
+sub-found : tie.Need-sub-found Inv-loop μ-loop
+sub-found c =
+    let turn = c .before .before .before in
+    let known = head turn .loop .inv in
+    omega (arith, found-byte known _ (kept-place known (omega (arith, turn .if1 .taken))))
 
-slice-write-shown : tie.Need-slice-write-shown Inv-loop μ-loop
-slice-write-shown c =
-    let t = c .before .before .before .before .before .before .loop .inv in
-    let one = kept-edge _ _ _ _ _ _ _ t (omega (arith, c .before .before .before .if1 .taken)) in
-    omega (arith, one .edge, shown-long _ _ _ _ _ _ _ t)
+element-write-found : tie.Need-element-write-found Inv-loop μ-loop
+element-write-found c =
+    let turn = c .before .before .before in
+    omega (arith, kept-place (head turn .loop .inv) (omega (arith, turn .if1 .taken)))
 
 across-requires : tie.Need-across-requires Inv-loop μ-loop
 across-requires c κs =
-    let t = c .before .before .before .before .before .before .loop .inv in
-    let one = kept-edge _ _ _ _ _ _ _ t (omega (arith, c .before .before .before .if1 .taken)) in
-    (t .rooted .valid, one .edge)
+    let turn = c .before .before .before in
+    let known = head turn .loop .inv in
+    (known .rooted .valid, kept-edge known (omega (arith, turn .if1 .taken)) .edge)
 
 loop-less : tie.Need-loop-less Inv-loop μ-loop
 loop-less c =
-    let t = c .before .before .before .before .before .before .before .loop .inv in
-    let one = kept-edge _ _ _ _ _ _ _ t (omega (arith, c .before .before .before .before .if1 .taken)) in
-    rw (c .across .ensures) (omega (arith, one .above))
+    let turn = c .before .before .before .before in
+    rw (c .across .ensures) (omega (arith, kept-edge (head turn .loop .inv) (omega (arith, turn .if1 .taken)) .above))
 
 loop-again : tie.Need-loop-again Inv-loop μ-loop
 loop-again c =
-    rw (c .across .ensures) (tracing-step _ _ _ _ _ _ _ (c .before .before .before .before .before .before .before .loop .inv) (omega (arith, c .before .before .before .before .if1 .taken)))
-
-same-length : tie.Need-same-length Inv-loop μ-loop
-same-length c =
-    let s = c .before .before .before .before .before .before .before in
-    shown-long _ _ _ _ _ _ _ (c .before .before .before .loop .inv) ∙ sym (ap length (s .pre .blank) ∙ length-replicate (length (s .args .marks .now)) 0)
+    let turn = c .before .before .before .before in
+    rw (c .across .ensures) (tracing-step (head turn .loop .inv) (omega (arith, turn .if1 .taken)))
 
 returns : tie.Need-returns Inv-loop μ-loop
-returns c = tracing-end _ _ _ _ _ _ _ (c .before .before .before .loop .inv) (c .if1 .left)
+returns c = tracing-end (c .before .before .before .loop .inv) (omega (arith, c .if1 .left))
 
 pub trace-spec : {M : Type 1} → statement M
 trace-spec =
@@ -97,11 +91,10 @@ trace-spec =
     mul-kept
     element-copy-out-kept
     cast-e
-    slice-read-shown
-    sub-shown
-    slice-write-shown
+    element-copy-out-found
+    sub-found
+    element-write-found
     across-requires
     loop-less
     loop-again
-    same-length
     returns)

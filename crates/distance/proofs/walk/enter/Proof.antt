@@ -1,8 +1,16 @@
 -- `distance::walk::enter` meets its contract: a state that was not met has room in the queue. Assumes nothing.
+use Prim.Native.Nat.{_<_}
 use native.Mathlib.Omega.{arith}
 use borrow.Author.Needs.{needs}
+use Rattle.distance.specs.States.{stateLimit}
 use Rattle.distance.proofs.walk.enter.Statement.{statement}
 use Rattle.distance.proofs.walk.enter.Tie as tie
+
+-- a state that was not met has room
+room : (c : tie.Else1) → c .before .before .before .args .tail .now < stateLimit
+room c =
+    let start = c .before .before .before in
+    start .pre .free (omega (arith, c .if1 .left))
 
 cast-i : tie.Need-cast-i
 cast-i c = search needs
@@ -29,13 +37,13 @@ element-write-via : tie.Need-element-write-via
 element-write-via c = search needs
 
 mul-queue : tie.Need-mul-queue
-mul-queue c = omega (arith, c .before .before .before .before .pre .free (c .before .if1 .left))
+mul-queue c = omega (arith, room (c .before))
 
 element-write-queue : tie.Need-element-write-queue
-element-write-queue c = omega (arith, c .before .before .before .before .pre .free (c .before .if1 .left))
+element-write-queue c = omega (arith, room (c .before))
 
 add-tail : tie.Need-add-tail
-add-tail c = omega (arith, c .before .before .before .before .pre .free (c .before .if1 .left))
+add-tail c = omega (arith, room (c .before))
 
 returns-2 : tie.Need-returns-2
 returns-2 c = search needs

@@ -8,7 +8,7 @@ use borrow.Author.Tests.{eq-eqb, ne-eqb}
 use denote.Ref.{now}
 use lib.ListN.{length}
 use Rattle.model.specs.Sums.{ones}
-use Rattle.peeling.specs.Flips.{AllFlippable, AllFlipped}
+use Rattle.peeling.specs.TreeFlips.{AllFlippable, AllFlipped}
 use Rattle.peeling.proofs.FlipLaws.{all-flippable, still-flippable, none-flipped, flipped-next, flipped-passed}
 use Rattle.peeling.proofs.flips.flip_syndrome.Statement.{statement}
 use Rattle.peeling.proofs.flips.flip_syndrome.Tie as tie

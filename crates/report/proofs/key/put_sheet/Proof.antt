@@ -1,33 +1,41 @@
 -- `report::key::put_sheet` meets its contract: the buffers are cut to a byte for each edge. Assumes nothing.
-use mathlib.Core.Path.{sym}
-use native.Mathlib.Omega.{arith}
-use lib.Seq.{length-take-le}
+use Prim.Native.Nat.{ℕ}
+use mathlib.Core.Path.{_≡_, sym}
+use denote.Ref.{now}
+use lib.ListN.{length, take, replicate}
 use borrow.Author.Needs.{needs}
+use Rattle.model.specs.Board.{edgeLimit}
+use Rattle.model.proofs.ListLaws.{front-long}
 use Rattle.report.proofs.key.put_sheet.Statement.{statement}
 use Rattle.report.proofs.key.put_sheet.Tie as tie
+
+-- where the call began
+abbrev begun : tie.After-slice-known → tie.Start
+begun c = c .before .before .before .before .before
+
+-- an array has a front with a byte for each edge
+front : (c : tie.After-slice-known) →
+    let edges = length (now (begun c .args .marks)) in
+    length (take edges (replicate {A = ℕ} edgeLimit 0)) ≡ edges
+front c = front-long _ edgeLimit 0 (begun c .pre .0 .board .inside .edge-limit)
 
 array-borrow-prefix-support : tie.Need-array-borrow-prefix-support
 array-borrow-prefix-support c = search needs
 
 slice-aggregate-put-decoded : tie.Need-slice-aggregate-put-decoded
-slice-aggregate-put-decoded c = sym (length-take-le _ _ (omega (arith, c .before .before .before .before .before .before .pre .0 .board .edge-limit)))
+slice-aggregate-put-decoded c = sym (front (c .before))
 
 array-borrow-prefix-correction : tie.Need-array-borrow-prefix-correction
 array-borrow-prefix-correction c = search needs
 
 slice-aggregate-put-decoded-2 : tie.Need-slice-aggregate-put-decoded-2
-slice-aggregate-put-decoded-2 c = sym (length-take-le _ _ (omega (arith, c .before .before .before .before .before .before .before .pre .0 .board .edge-limit)))
+slice-aggregate-put-decoded-2 c = sym (front (c .before .before))
 
 put-decoded-requires : tie.Need-put-decoded-requires
 put-decoded-requires c κs =
-    let w = c .before .before .before .before .before .before .before .before .pre in
-    let short = w .0 .board .edge-limit in
-    record {
-      sheet = w .0;
-      support-long = length-take-le _ _ (omega (arith, short));
-      correction-long = length-take-le _ _ (omega (arith, short));
-      room = w .1;
-    }
+    let known = c .before .before .before in
+    let w = begun known .pre in
+    record { sheet = w .0; support-long = front known; correction-long = front known; room = w .1 }
 
 same-length : tie.Need-same-length
 same-length c = search needs

@@ -1,7 +1,7 @@
 -- `report::lines::put_dash` meets its contract: four bytes, one after the other. Assumes nothing.
 use borrow.Author.Needs.{needs}
 use Rattle.text.proofs.PutLaws.{then}
-use Rattle.report.proofs.LineLaws.{dash-bytes}
+use Rattle.report.proofs.ReportLineLaws.{dash-bytes}
 use Rattle.report.proofs.lines.put_dash.Statement.{statement}
 use Rattle.report.proofs.lines.put_dash.Tie as tie
 
@@ -22,8 +22,14 @@ same-length c = search needs
 
 returns : tie.Need-returns
 returns c =
+    let ended = c .before .before in
+    let dashed = ended .before .before .before .before in
+    let tabbed = dashed .before .before .before .before in
+    let lettered = tabbed .before .before .before .before in
     rw dash-bytes
-    (then (then (then (c .before .before .before .before .before .before .before .before .before .before .before .before .before .before .put-byte .ensures) (c .before .before .before .before .before .before .before .before .before .before .put-byte2 .ensures)) (c .before .before .before .before .before .before .put-byte3 .ensures)) (c .before .before .put-byte4 .ensures))
+    (then
+    (then (then (lettered .put-byte .ensures) (tabbed .put-byte2 .ensures)) (dashed .put-byte3 .ensures))
+    (ended .put-byte4 .ensures))
 
 pub put-dash-spec : {M : Type 1} → statement M
 put-dash-spec =

@@ -5,23 +5,20 @@ use mathlib.Core.Path.{sym, ap, _∙_}
 use native.Mathlib.Omega.{arith}
 use borrow.Author.Needs.{needs}
 use denote.Ref.{now}
-use Rattle.text.specs.Lines.{asRead}
-use Rattle.text.proofs.LineLaws.{no-newline, newline-at}
+use Rattle.text.specs.LineReadings.{asRead}
+use Rattle.text.proofs.LineReadingLaws.{no-newline, newline-at}
 use Rattle.text.proofs.NumberLaws.{newlines-bound, next-number}
 use Rattle.text.proofs.line.line_at.Statement.{statement}
 use Rattle.text.proofs.line.line_at.Tie as tie
-use Rattle.text.proofs.line.line_at.Reads as reads
-use Rattle.text.proofs.line.line_at.Lts as lts
-use Rattle.text.proofs.line.line_end.Reads as line-end-reads
-use Rattle.text.proofs.line.line_of.Reads as line-of-reads
 
 line-end-requires : tie.Need-line-end-requires
 line-end-requires c κs = search needs
 
 returns : tie.Need-returns
 returns c =
-    let a = c .before .before .before .args in
-    record { line-read = sym (no-newline (now (a .text)) (a .at) (a .number) _ (c .before .line-end .ensures) (c .if1 .taken)); next-numbered = tt }
+    let ended = c .before in
+    let a = ended .before .before .args in
+    record { line-read = sym (no-newline (now (a .text)) (a .at) (a .number) _ (ended .line-end .ensures) (c .if1 .taken)); next-numbered = tt }
 
 sub-line-of : tie.Need-sub-line-of
 sub-line-of c = search needs
@@ -43,10 +40,14 @@ enum-told c = search needs
 
 returns-2 : tie.Need-returns-2
 returns-2 c =
-    let a = c .before .before .before .before .before .before .before .args in
-    let end = c .before .before .before .before .before .line-end in
+    let parsed = c .before .before in
+    let inside = parsed .before .before in
+    let end = inside .before .line-end in
+    let a = inside .before .before .before .args in
     record {
-      line-read = ap (λ x. asRead x (end .result + 1) (a .number + 1)) (sym (c .enum-told .given .1) ∙ c .before .before .line-of .ensures) ∙ sym (newline-at (now (a .text)) (a .at) (a .number) (end .result) (end .ensures) (c .before .before .before .before .if1 .left));
+      line-read =
+          ap (λ x. asRead x (end .result + 1) (a .number + 1)) (sym (c .enum-told .given .1) ∙ parsed .line-of .ensures)
+          ∙ sym (newline-at (now (a .text)) (a .at) (a .number) (end .result) (end .ensures) (inside .if1 .left));
       next-numbered = tt;
     }
 
@@ -55,17 +56,24 @@ add-t6 c = search needs
 
 add-t12 : tie.Need-add-t12
 add-t12 c =
-    let a = c .before .before .before .before .before .before .before .before .args in
-    let end = c .before .before .before .before .before .before .line-end in
-    omega (arith, c .before .before .before .before .before .before .before .before .pre, newlines-bound (now (a .text)) (a .at), end .ensures, c .before .before .before .before .before .if1 .left)
+    let inside = c .before .before .before .before .before in
+    let end = inside .before .line-end in
+    let start = inside .before .before .before in
+    omega (arith, start .pre, newlines-bound (now (start .args .text)) (start .args .at), end .ensures, inside .if1 .left)
 
 returns-3 : tie.Need-returns-3
 returns-3 c =
-    let a = c .before .before .before .before .before .before .before .before .args in
-    let end = c .before .before .before .before .before .before .line-end in
+    let parsed = c .before .before .before in
+    let inside = parsed .before .before in
+    let end = inside .before .line-end in
+    let start = inside .before .before .before in
+    let a = start .args in
     record {
-      line-read = ap (λ x. asRead x (end .result + 1) (a .number + 1)) (sym (c .before .line .given .1) ∙ c .before .before .before .line-of .ensures) ∙ sym (newline-at (now (a .text)) (a .at) (a .number) (end .result) (end .ensures) (c .before .before .before .before .before .if1 .left));
-      next-numbered = ap (λ i. i + 1) (c .before .before .before .before .before .before .before .before .pre) ∙ sym (next-number (now (a .text)) (a .at) (end .result) (end .ensures) (c .before .before .before .before .before .if1 .left));
+      line-read =
+          ap (λ x. asRead x (end .result + 1) (a .number + 1)) (sym (c .before .line .given .1) ∙ parsed .line-of .ensures)
+          ∙ sym (newline-at (now (a .text)) (a .at) (a .number) (end .result) (end .ensures) (inside .if1 .left));
+      next-numbered =
+          ap (λ i. i + 1) (start .pre) ∙ sym (next-number (now (a .text)) (a .at) (end .result) (end .ensures) (inside .if1 .left));
     }
 
 pub line-at-spec : {M : Type 1} → statement M

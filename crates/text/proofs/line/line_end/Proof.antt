@@ -12,8 +12,6 @@ use Rattle.text.specs.Pieces.{upTo}
 use Rattle.text.proofs.PieceLaws.{upTo-at, upTo-end}
 use Rattle.text.proofs.line.line_end.Statement.{statement}
 use Rattle.text.proofs.line.line_end.Tie as tie
-use Rattle.text.proofs.line.line_end.Reads as reads
-use Rattle.text.proofs.line.line_end.Lts as lts
 
 abbrev Inv-loop : tie.InvT-loop
 Inv-loop text at end₀ end = end + length (upTo newline (drop end text)) ≡ at + length (upTo newline (drop at text))
@@ -29,9 +27,11 @@ shared-slice-read-if1 c = search needs
 
 returns : tie.Need-returns Inv-loop μ-loop
 returns c =
-    let w = c .before .before .before .loop in
-    let t = now (c .before .before .before .before .args .text) in
-    let here : length (upTo newline (drop (w .end) t)) ≡ 0 = rw (upTo-at newline t (w .end) (c .before .before .loop-test .taken), eq-eqb (getD t (w .end) 0) newline (c .if1 .taken)) in
+    let turn = c .before .before in
+    let w = turn .before .loop in
+    let t = now (turn .before .before .args .text) in
+    let here : length (upTo newline (drop (w .end) t)) ≡ 0 =
+    rw (upTo-at newline t (w .end) (turn .loop-test .taken), eq-eqb (getD t (w .end) 0) newline (c .if1 .taken)) in
     omega (arith, w .inv)
 
 add-end : tie.Need-add-end Inv-loop μ-loop
@@ -42,9 +42,11 @@ loop-less c = search needs
 
 loop-again : tie.Need-loop-again Inv-loop μ-loop
 loop-again c =
-    let w = c .before .before .before .loop in
-    let t = now (c .before .before .before .before .args .text) in
-    let here : length (upTo newline (drop (w .end) t)) ≡ suc (length (upTo newline (drop (w .end + 1) t))) = rw (upTo-at newline t (w .end) (c .before .before .loop-test .taken), ne-eqb (getD t (w .end) 0) newline (c .if1 .left)) in
+    let turn = c .before .before in
+    let w = turn .before .loop in
+    let t = now (turn .before .before .args .text) in
+    let here : length (upTo newline (drop (w .end) t)) ≡ suc (length (upTo newline (drop (w .end + 1) t))) =
+    rw (upTo-at newline t (w .end) (turn .loop-test .taken), ne-eqb (getD t (w .end) 0) newline (c .if1 .left)) in
     omega (arith, w .inv)
 
 returns-2 : tie.Need-returns-2 Inv-loop μ-loop

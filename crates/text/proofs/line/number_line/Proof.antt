@@ -1,22 +1,26 @@
 -- `text::line::number_line` meets its contract: its tests are the definition's own. Assumes nothing.
-use mathlib.Core.Path.{_≡_, refl}
 use borrow.Author.Tests.{eq-eqb, ne-eqb}
+use Rattle.model.specs.Text.{letterV, letterS, letterX}
 use Rattle.text.proofs.line.number_line.Statement.{statement}
 use Rattle.text.proofs.line.number_line.Tie as tie
-use Rattle.text.proofs.line.number_line.Reads as reads
-use Rattle.text.proofs.line.number_line.Lts as lts
 
 returns : tie.Need-returns
-returns c = rw (eq-eqb (c .before .args .letter) 86 (c .if1 .taken))
+returns c = rw (eq-eqb (c .before .args .letter) letterV (c .if1 .taken))
 
 returns-2 : tie.Need-returns-2
-returns-2 c = rw (ne-eqb (c .before .before .args .letter) 86 (c .before .if1 .left), eq-eqb (c .before .before .args .letter) 83 (c .if2 .taken))
+returns-2 c =
+    let letter = c .before .before .args .letter in
+    rw (ne-eqb letter letterV (c .before .if1 .left), eq-eqb letter letterS (c .if2 .taken))
 
 returns-3 : tie.Need-returns-3
-returns-3 c = rw (ne-eqb (c .before .before .before .args .letter) 86 (c .before .before .if1 .left), ne-eqb (c .before .before .before .args .letter) 83 (c .before .if2 .left), eq-eqb (c .before .before .before .args .letter) 88 (c .if3 .taken))
+returns-3 c =
+    let letter = c .before .before .before .args .letter in
+    rw (ne-eqb letter letterV (c .before .before .if1 .left), ne-eqb letter letterS (c .before .if2 .left), eq-eqb letter letterX (c .if3 .taken))
 
 returns-4 : tie.Need-returns-4
-returns-4 c = rw (ne-eqb (c .before .before .before .args .letter) 86 (c .before .before .if1 .left), ne-eqb (c .before .before .before .args .letter) 83 (c .before .if2 .left), ne-eqb (c .before .before .before .args .letter) 88 (c .if3 .left))
+returns-4 c =
+    let letter = c .before .before .before .args .letter in
+    rw (ne-eqb letter letterV (c .before .before .if1 .left), ne-eqb letter letterS (c .before .if2 .left), ne-eqb letter letterX (c .if3 .left))
 
 pub number-line-spec : {M : Type 1} → statement M
 number-line-spec = tie.close (tie.spec returns returns-2 returns-3 returns-4)

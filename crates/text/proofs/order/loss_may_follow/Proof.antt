@@ -5,8 +5,6 @@ use Rattle.model.specs.Text.{lossMayFollow}
 use Rattle.text.specs.Order.{meant}
 use Rattle.text.proofs.order.loss_may_follow.Statement.{statement}
 use Rattle.text.proofs.order.loss_may_follow.Tie as tie
-use Rattle.text.proofs.order.loss_may_follow.Reads as reads
-use Rattle.text.proofs.order.loss_may_follow.Lts as lts
 
 enum-told : tie.Need-enum-told
 enum-told c = search needs
@@ -30,7 +28,9 @@ returns-3 : tie.Need-returns-3
 returns-3 c = search needs
 
 returns-4 : tie.Need-returns-4
-returns-4 c = sym (ap (λ l. lossMayFollow (meant l) (c .before .before .before .before .before .args .edge .0)) (c .before .before .before .last .given .1))
+returns-4 c =
+    let found = c .before .before .before in
+    sym (ap (λ l. lossMayFollow (meant l) (found .before .before .args .edge .0)) (found .last .given .1))
 
 pub loss-may-follow-spec : {M : Type 1} → statement M
 loss-may-follow-spec =

@@ -6,12 +6,6 @@ use lib.Dec.{ltb}
 use Rattle.text.specs.Order.{meant, mayStand}
 use Rattle.text.proofs.order.may_stand.Statement.{statement}
 use Rattle.text.proofs.order.may_stand.Tie as tie
-use Rattle.text.proofs.order.may_stand.Reads as reads
-use Rattle.text.proofs.order.may_stand.Lts as lts
-use Rattle.text.proofs.order.edge_fits.Reads as edge-fits-reads
-use Rattle.text.proofs.order.edge_may_follow.Reads as edge-may-follow-reads
-use Rattle.text.proofs.order.loss_may_follow.Reads as loss-may-follow-reads
-use Rattle.text.proofs.order.syndrome_may_follow.Reads as syndrome-may-follow-reads
 
 enum-told : tie.Need-enum-told
 enum-told c = search needs
@@ -42,18 +36,24 @@ returns c = search needs
 
 returns-2 : tie.Need-returns-2
 returns-2 c =
+    let found = c .before .before .before in
+    let a = found .before .before .args in
     ap₂ _&&_ (c .before .edge-may-follow .ensures) (c .edge-fits .ensures)
-    ∙ sym (ap (λ l. mayStand (c .before .before .before .before .before .args .vertices) (c .before .before .before .before .before .args .edges) (meant (c .before .before .before .before .before .args .last)) (meant l)) (c .before .before .before .line .given .1))
+    ∙ sym (ap (λ l. mayStand (a .vertices) (a .edges) (meant (a .last)) (meant l)) (found .line .given .1))
 
 returns-3 : tie.Need-returns-3
 returns-3 c =
-    ap (λ b. b && ltb (c .before .before .before .line2 .given .0 .0 .0) (c .before .before .before .before .before .args .vertices)) (c .before .syndrome-may-follow .ensures)
-    ∙ sym (ap (λ l. mayStand (c .before .before .before .before .before .args .vertices) (c .before .before .before .before .before .args .edges) (meant (c .before .before .before .before .before .args .last)) (meant l)) (c .before .before .before .line2 .given .1))
+    let found = c .before .before .before in
+    let a = found .before .before .args in
+    ap (λ b. b && ltb (found .line2 .given .0 .0 .0) (a .vertices)) (c .before .syndrome-may-follow .ensures)
+    ∙ sym (ap (λ l. mayStand (a .vertices) (a .edges) (meant (a .last)) (meant l)) (found .line2 .given .1))
 
 returns-4 : tie.Need-returns-4
 returns-4 c =
-    ap (λ b. b && ltb (c .before .before .before .line3 .given .0 .0 .0) (c .before .before .before .before .before .args .edges)) (c .before .loss-may-follow .ensures)
-    ∙ sym (ap (λ l. mayStand (c .before .before .before .before .before .args .vertices) (c .before .before .before .before .before .args .edges) (meant (c .before .before .before .before .before .args .last)) (meant l)) (c .before .before .before .line3 .given .1))
+    let found = c .before .before .before in
+    let a = found .before .before .args in
+    ap (λ b. b && ltb (found .line3 .given .0 .0 .0) (a .edges)) (c .before .loss-may-follow .ensures)
+    ∙ sym (ap (λ l. mayStand (a .vertices) (a .edges) (meant (a .last)) (meant l)) (found .line3 .given .1))
 
 pub may-stand-spec : {M : Type 1} → statement M
 may-stand-spec =

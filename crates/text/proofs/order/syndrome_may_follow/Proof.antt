@@ -5,8 +5,6 @@ use Rattle.model.specs.Text.{syndromeMayFollow}
 use Rattle.text.specs.Order.{meant}
 use Rattle.text.proofs.order.syndrome_may_follow.Statement.{statement}
 use Rattle.text.proofs.order.syndrome_may_follow.Tie as tie
-use Rattle.text.proofs.order.syndrome_may_follow.Reads as reads
-use Rattle.text.proofs.order.syndrome_may_follow.Lts as lts
 
 enum-told : tie.Need-enum-told
 enum-told c = search needs
@@ -27,7 +25,9 @@ returns-2 : tie.Need-returns-2
 returns-2 c = search needs
 
 returns-3 : tie.Need-returns-3
-returns-3 c = sym (ap (λ l. syndromeMayFollow (meant l) (c .before .before .before .before .before .args .vertex .0)) (c .before .before .before .last .given .1))
+returns-3 c =
+    let found = c .before .before .before in
+    sym (ap (λ l. syndromeMayFollow (meant l) (found .before .before .args .vertex .0)) (found .last .given .1))
 
 returns-4 : tie.Need-returns-4
 returns-4 c = search needs

@@ -1,16 +1,16 @@
 -- `text::printing::put_number` meets its contract: one digit, or those of the tens and then the last one. The measure is the number.
 -- Assumes nothing.
-use mathlib.Core.Path.{_≡_, refl, sym, ap, _∙_}
+use Prim.Native.Nat.{ℕ, _+_, _/_, _%_, _<_}
+use mathlib.Core.Path.{ap}
+use mathlib.Core.List.{[], _∷_}
 use native.Mathlib.Omega.{arith}
 use borrow.Author.Needs.{needs}
 use denote.Ref.{now}
-use lib.ListN.{length, length-append, length-set}
-use Rattle.model.specs.Text.{decimal}
+use lib.ListN.{length, length-append}
+use Rattle.model.specs.Text.{digitZero, decimal}
 use Rattle.theory.proofs.Decimals.{decimal-digit}
 use Rattle.text.proofs.DecimalLaws.{decimal-step}
 use Rattle.text.proofs.PutLaws.{then, put-one, long}
-use Prim.Native.Nat.{ℕ, _+_, _/_, _%_, _<_}
-use mathlib.Core.List.{[], _∷_}
 use borrow.Fn.Kinds.{In}
 use borrow.Fn.PlainCycle.{Measures, is, falls, and}
 use Rattle.text.proofs.printing.put_number.Reads as put-number
@@ -51,18 +51,18 @@ put-number-slice-write-out : (t : ℕ) → put-number-lts.Need-slice-write-out (
   put-number.Post,
 ) (put-number-at t) put-number.Post
 put-number-slice-write-out t c =
-    let a = c .before .before .args in
-    let one = ap length (decimal-digit (a .n) (c .if1 .taken)) in
-    omega (arith, c .before .before .pre .1)
+    let start = c .before .before in
+    let one = ap length (decimal-digit (start .args .n) (c .if1 .taken)) in
+    omega (arith, start .pre .1)
 
 put-number-add-result : (t : ℕ) → put-number-lts.Need-add-result (
   put-number-below t,
   put-number.Post,
 ) (put-number-at t) put-number.Post
 put-number-add-result t c =
-    let a = c .before .before .args in
-    let one = ap length (decimal-digit (a .n) (c .if1 .taken)) in
-    omega (arith, c .before .before .pre .1)
+    let start = c .before .before in
+    let one = ap length (decimal-digit (start .args .n) (c .if1 .taken)) in
+    omega (arith, start .pre .1)
 
 put-number-same-length : (t : ℕ) → put-number-lts.Need-same-length (
   put-number-below t,
@@ -78,18 +78,18 @@ put-number-returns :
     put-number.Post
 put-number-returns t c =
     let a = c .before .before .args in
-    rw (decimal-digit (a .n) (c .if1 .taken)) (put-one (48 + a .n) (now (a .out)) (a .at))
+    rw (decimal-digit (a .n) (c .if1 .taken)) (put-one (digitZero + a .n) (now (a .out)) (a .at))
 
 put-number-put-number-requires : (t : ℕ) → put-number-lts.Need-put-number-requires (
   put-number-below t,
   put-number.Post,
 ) (put-number-at t) put-number.Post
 put-number-put-number-requires t c κs =
-    let a = c .before .before .before .args in
-    let n = a .n in
+    let start = c .before .before .before in
+    let n = start .args .n in
     let step = ap length (decimal-step n (c .before .if1 .left)) in
-    let more = length-append (decimal (n / 10)) ((48 + n % 10) ∷ []) in
-    (omega (arith, c .before .before .before .pre .0), omega (arith, c .before .before .before .pre .1))
+    let more = length-append (decimal (n / 10)) ((digitZero + n % 10) ∷ []) in
+    (omega (arith, start .pre .0), omega (arith, start .pre .1))
 
 put-number-cast-out-2 : (t : ℕ) → put-number-lts.Need-cast-out-2 (
   put-number-below t,
@@ -108,37 +108,47 @@ put-number-slice-write-out-2 : (t : ℕ) → put-number-lts.Need-slice-write-out
   put-number.Post,
 ) (put-number-at t) put-number.Post
 put-number-slice-write-out-2 t c =
-    let n = c .before .before .before .before .before .before .args .n in
-    let done = c .before .before .put-number .ensures in
-    let step = ap length (decimal-step n (c .before .before .before .before .if1 .left)) in
-    let more = length-append (decimal (n / 10)) ((48 + n % 10) ∷ []) in
-    rw (long done) (omega (arith, done .position, c .before .before .before .before .before .before .pre .1))
+    let tens = c .before .before in
+    let large = tens .before .before in
+    let start = large .before .before in
+    let n = start .args .n in
+    let done = tens .put-number .ensures in
+    let step = ap length (decimal-step n (large .if1 .left)) in
+    let more = length-append (decimal (n / 10)) ((digitZero + n % 10) ∷ []) in
+    rw (long done) (omega (arith, done .position, start .pre .1))
 
 put-number-add-result-2 : (t : ℕ) → put-number-lts.Need-add-result-2 (
   put-number-below t,
   put-number.Post,
 ) (put-number-at t) put-number.Post
 put-number-add-result-2 t c =
-    let n = c .before .before .before .before .before .before .args .n in
-    let done = c .before .before .put-number .ensures in
-    let step = ap length (decimal-step n (c .before .before .before .before .if1 .left)) in
-    let more = length-append (decimal (n / 10)) ((48 + n % 10) ∷ []) in
-    omega (arith, done .position, c .before .before .before .before .before .before .pre .1)
+    let tens = c .before .before in
+    let large = tens .before .before in
+    let start = large .before .before in
+    let n = start .args .n in
+    let done = tens .put-number .ensures in
+    let step = ap length (decimal-step n (large .if1 .left)) in
+    let more = length-append (decimal (n / 10)) ((digitZero + n % 10) ∷ []) in
+    omega (arith, done .position, start .pre .1)
 
 put-number-same-length-2 : (t : ℕ) → put-number-lts.Need-same-length-2 (
   put-number-below t,
   put-number.Post,
 ) (put-number-at t) put-number.Post
 put-number-same-length-2 t c =
-    long (then (c .before .before .put-number .ensures) (put-one (48 + c .before .before .before .before .before .before .args .n % 10) _ _))
+    let tens = c .before .before in
+    let n = tens .before .before .before .before .args .n in
+    long (then (tens .put-number .ensures) (put-one (digitZero + n % 10) _ _))
 
 put-number-returns-2 : (t : ℕ) → put-number-lts.Need-returns-2 (
   put-number-below t,
   put-number.Post,
 ) (put-number-at t) put-number.Post
 put-number-returns-2 t c =
-    let n = c .before .before .before .before .before .before .args .n in
-    rw (decimal-step n (c .before .before .before .before .if1 .left)) (then (c .before .before .put-number .ensures) (put-one (48 + n % 10) _ _))
+    let tens = c .before .before in
+    let large = tens .before .before in
+    let n = large .before .before .args .n in
+    rw (decimal-step n (large .if1 .left)) (then (tens .put-number .ensures) (put-one (digitZero + n % 10) _ _))
 
 pub +put-number-spec : {M : Type 1} → statement M
 +put-number-spec = close μ-put-number λ t. put-number-lts.spec (

@@ -1,12 +1,8 @@
--- `text::printing::put_field` meets its contract. Assumes nothing.
+-- `text::printing::put_field` meets its contract: a tab and a number, one after the other. Assumes nothing.
 use borrow.Author.Needs.{needs}
 use Rattle.text.proofs.PutLaws.{then}
 use Rattle.text.proofs.printing.put_field.Statement.{statement}
 use Rattle.text.proofs.printing.put_field.Tie as tie
-use Rattle.text.proofs.printing.put_field.Reads as reads
-use Rattle.text.proofs.printing.put_field.Lts as lts
-use Rattle.text.proofs.printing.put_byte.Reads as put-byte-reads
-use Rattle.text.proofs.printing.put_number.Reads as put-number-reads
 
 put-byte-requires : tie.Need-put-byte-requires
 put-byte-requires c κs = search needs
@@ -18,7 +14,10 @@ same-length : tie.Need-same-length
 same-length c = search needs
 
 returns : tie.Need-returns
-returns c = then (c .before .before .before .before .before .before .put-byte .ensures) (c .before .before .put-number .ensures)
+returns c =
+    let number = c .before .before in
+    let tab = number .before .before .before .before in
+    then (tab .put-byte .ensures) (number .put-number .ensures)
 
 pub put-field-spec : {M : Type 1} → statement M
 put-field-spec = tie.close (tie.spec put-byte-requires put-number-requires same-length returns)

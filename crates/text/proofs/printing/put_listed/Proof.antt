@@ -1,6 +1,7 @@
 -- `text::printing::put_listed` meets its contract. The loop's invariant: so many places are gone through. Assumes nothing.
-use Prim.Native.Nat.{ℕ, _-_, _≤_}
-use mathlib.Core.Path.{_≡_, subst}
+use Prim.Native.Nat.{_-_, _≤_}
+use mathlib.Core.Path.{subst}
+use native.Mathlib.Nat.{le-antisymm}
 use native.Mathlib.Omega.{arith}
 use borrow.Author.Needs.{needs}
 use denote.Ref.{now}
@@ -26,10 +27,12 @@ shared-slice-read-put-place c = search needs
 
 put-place-requires : tie.Need-put-place-requires Inv-loop μ-loop
 put-place-requires c κs =
-    let w = c .before .before .before .loop in
-    let done = w .inv .1 in
-    let fit = listed-fit (c .before .before .before .before .before .before .args .letter) (ones (now (c .before .before .before .before .before .before .args .bytes))) (length (now (c .before .before .before .before .before .before .args .bytes))) (w .i) (c .before .before .loop-test .taken) in
-    omega (arith, done .position, long done, c .before .before .before .before .before .before .pre)
+    let turn = c .before .before in
+    let w = turn .before .loop in
+    let start = turn .before .before .before .before in
+    let bytes = now (start .args .bytes) in
+    let fit = listed-fit (start .args .letter) (ones bytes) (length bytes) (w .i) (turn .loop-test .taken) in
+    omega (arith, w .inv .1 .position, long (w .inv .1), start .pre)
 
 add-i : tie.Need-add-i Inv-loop μ-loop
 add-i c = search needs
@@ -39,8 +42,12 @@ loop-less c = search needs
 
 loop-again : tie.Need-loop-again Inv-loop μ-loop
 loop-again c =
-    let w = c .before .before .before .before .before .before .loop in
-    (omega arith, rw (listed-more (c .before .before .before .before .before .before .before .before .before .args .letter) (ones (now (c .before .before .before .before .before .before .before .before .before .args .bytes))) (w .i)) (then (w .inv .1) (c .before .before .put-place .ensures)))
+    let put = c .before .before in
+    let loop = put .before .before .before .before in
+    let a = loop .before .before .before .args in (
+      omega arith,
+      rw (listed-more (a .letter) (ones (now (a .bytes))) (loop .loop .i)) (then (loop .loop .inv .1) (put .put-place .ensures)),
+    )
 
 same-length : tie.Need-same-length Inv-loop μ-loop
 same-length c = long (c .before .loop .inv .1)
@@ -48,10 +55,9 @@ same-length c = long (c .before .loop .inv .1)
 returns : tie.Need-returns Inv-loop μ-loop
 returns c =
     let w = c .before .loop in
-    subst (λ i. Puts (listedBytes (c .before .before .before .before .args .letter) (ones (now (c .before .before .before .before .args .bytes))) i) (now (c .before .before .before .before .args .out)) (c .before .before .before .before .args .at) (w .next) (w .out)) (all (w .inv .0) (c .loop-test .left)) (w .inv .1)
-  where
-    all : {a b : ℕ} → a ≤ b → b ≤ a → a ≡ b
-    all h k = omega arith
+    let a = c .before .before .before .before .args in
+    subst (λ i. Puts (listedBytes (a .letter) (ones (now (a .bytes))) i) (now (a .out)) (a .at) (w .next) (w .out))
+    (le-antisymm (w .inv .0) (c .loop-test .left)) (w .inv .1)
 
 pub put-listed-spec : {M : Type 1} → statement M
 put-listed-spec =

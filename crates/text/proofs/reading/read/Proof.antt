@@ -1,33 +1,87 @@
--- `text::reading::read` meets its contract: the tests in their order, then the lines, then the entries copied. Assumes nothing.
-use Prim.Native.Nat.{ℕ, _*_, _≤_}
-use mathlib.Core.Path.{_≡_, refl, sym, ap, _∙_}
+-- `text::reading::read` meets its contract: the tests in their order, then the lines, then the entries copied, none where the lines are
+-- refused. Assumes nothing.
+use Prim.Native.Nat.{_≤_}
+use mathlib.Core.Path.{_≡_, sym, ap, _∙_}
+use mathlib.Core.Logic.{⊎-elim}
 use native.Mathlib.Omega.{arith}
+use borrow.Author.Needs.{needs}
 use borrow.Author.Tests.{not-true, not-false}
 use denote.Ref.{now}
-use Rattle.text.proofs.ReadOutcome.{wrong-length, too-long, malformed, all-filled, fits-sized, Counted, counted}
-use Rattle.text.specs.Scratch.{Sized}
+use Rattle.model.specs.Board.{vertexLimit, edgeLimit}
+use Rattle.model.specs.TextOutcomes.{Buffers, buffersOf}
 use Rattle.model.proofs.ListLaws.{zero-everywhere}
+use Rattle.text.specs.Scratch.{Sized}
 use Rattle.text.proofs.HoldLaws.{zeros-sized}
-use borrow.Author.Needs.{needs}
+use Rattle.text.proofs.ReadOutcome.{fits-sized, verticesFilled, edgesFilled, few-filled, wrong-length, too-long, reads}
 use Rattle.text.proofs.reading.read.Statement.{statement}
 use Rattle.text.proofs.reading.read.Tie as tie
-use Rattle.text.proofs.reading.read.Reads as reads
-use Rattle.text.proofs.reading.read.Lts as lts
-use Rattle.text.proofs.copy.copy_bytes.Reads as copy-bytes-reads
-use Rattle.text.proofs.copy.copy_numbers.Reads as copy-numbers-reads
-use Rattle.text.proofs.reading.read_lines.Reads as read-lines-reads
 
-mul-fit : tie.Need-mul-fit
-mul-fit c = search needs
+-- what the lent buffers hold at the begin
+abbrev lent : tie.Start → Buffers
+lent s = buffersOf (now (s .args .ends)) (now (s .args .marks)) (now (s .args .syndrome)) (now (s .args .loss))
+
+-- The states, from each back to the one before: both tests passed, the lines read, the counts known, and each buffer copied.
+abbrev start : tie.Else2 → tie.Start
+start c = c .before .before .before .before .before .before .before
+
+abbrev passed : tie.After-read-lines → tie.Else2
+passed c = c .before .before .before .before .before
+
+abbrev counted : tie.After-copy-numbers → tie.At-match-came
+counted c = c .before .before .before .before
+
+abbrev ends-copied : tie.After-copy-bytes → tie.After-copy-numbers
+ends-copied c = c .before .before .before .before .before
+
+abbrev marks-copied : tie.After-copy-bytes2 → tie.After-copy-bytes
+marks-copied c = c .before .before .before .before .before
+
+abbrev syndrome-copied : tie.After-copy-bytes3 → tie.After-copy-bytes2
+syndrome-copied c = c .before .before .before .before .before
+
+-- the lent buffers have their lengths
+lent-sized : (c : tie.Else2) → Sized (lent (start c))
+lent-sized c = fits-sized (lent (start c)) (not-false _ (c .before .if1 .left))
+
+-- the reading is that of the lines, and as many vertices and edges are copied as it fills in: none where it is refused
+same : (c : tie.At-match-came) → c .match .reading ≡ c .before .read-lines .result
+same c = ⊎-elim (λ w. w .3 ∙ sym (w .1 .given .1)) (λ w. w .2) (c .match .came)
+
+fills-vertices : (c : tie.At-match-came) → c .match .filled .vertices ≡ verticesFilled (c .before .read-lines .result)
+fills-vertices c =
+    ⊎-elim
+    (λ w. ap (λ x. x .vertices) (w .4) ∙ sym (ap verticesFilled (w .1 .given .1)))
+    (λ w.
+    let none : c .match .filled .vertices ≡ 0 = ap (λ x. x .vertices) (w .3) in
+    none ∙ sym (ap verticesFilled (w .1 .given .1)))
+    (c .match .came)
+
+fills-edges : (c : tie.At-match-came) → c .match .filled .edges ≡ edgesFilled (c .before .read-lines .result)
+fills-edges c =
+    ⊎-elim
+    (λ w. ap (λ x. x .edges) (w .4) ∙ sym (ap edgesFilled (w .1 .given .1)))
+    (λ w.
+    let none : c .match .filled .edges ≡ 0 = ap (λ x. x .edges) (w .3) in
+    none ∙ sym (ap edgesFilled (w .1 .given .1)))
+    (c .match .came)
+
+few : (c : tie.At-match-came) → (c .match .filled .vertices ≤ vertexLimit) × (c .match .filled .edges ≤ edgeLimit)
+few c =
+    let w = few-filled _ _ _ (c .before .read-lines .ensures) in
+    (rw (fills-vertices c) (w .0), rw (fills-edges c) (w .1))
 
 returns : tie.Need-returns
-returns c = wrong-length (now (c .before .before .before .before .before .before .args .text)) (now (c .before .before .before .before .before .before .args .ends)) (now (c .before .before .before .before .before .before .args .marks)) (now (c .before .before .before .before .before .before .args .syndrome)) (now (c .before .before .before .before .before .before .args .loss)) (not-true _ (c .if1 .taken))
+returns c =
+    let s = c .before .before .before .before .before .before in
+    wrong-length (now (s .args .text)) (lent s) (not-true _ (c .if1 .taken))
 
 returns-2 : tie.Need-returns-2
-returns-2 c = too-long (now (c .before .before .before .before .before .before .before .args .text)) (now (c .before .before .before .before .before .before .before .args .ends)) (now (c .before .before .before .before .before .before .before .args .marks)) (now (c .before .before .before .before .before .before .before .args .syndrome)) (now (c .before .before .before .before .before .before .before .args .loss)) (not-false _ (c .before .if1 .left)) (c .if2 .taken)
+returns-2 c =
+    let s = c .before .before .before .before .before .before .before in
+    too-long (now (s .args .text)) (lent s) (not-false _ (c .before .if1 .left)) (c .if2 .taken)
 
 read-lines-requires : tie.Need-read-lines-requires
-read-lines-requires c κs = (zeros-sized, zero-everywhere 1024)
+read-lines-requires c κs = (zeros-sized, zero-everywhere vertexLimit)
 
 enum-known-reading : tie.Need-enum-known-reading
 enum-known-reading c = search needs
@@ -35,62 +89,58 @@ enum-known-reading c = search needs
 enum-told : tie.Need-enum-told
 enum-told c = search needs
 
--- where both counts came back, the arrays hold the sheet
-known : (c : tie.After-known-told) → Counted (now (c .before .before .before .before .before .before .before .before .before .before .before .before .before .before .before .args .text)) (c .before .reading .given .0 .0) (c .before .reading .given .0 .1 .0) (c .before .before .before .read-lines .last .1 .0) (c .before .before .before .read-lines .last .1 .1 .0) (c .before .before .before .read-lines .last .1 .1 .1 .0) (c .before .before .before .read-lines .last .1 .1 .1 .1 .0)
-known c = counted (now (c .before .before .before .before .before .before .before .before .before .before .before .before .before .before .before .args .text)) _ _ _ _ _ _ _ (c .before .before .before .read-lines .ensures) (c .before .reading .given .1)
-
-lent : (c : tie.After-known-told) → Sized (now (c .before .before .before .before .before .before .before .before .before .before .before .before .before .before .before .args .ends)) (now (c .before .before .before .before .before .before .before .before .before .before .before .before .before .before .before .args .marks)) (now (c .before .before .before .before .before .before .before .before .before .before .before .before .before .before .before .args .syndrome)) (now (c .before .before .before .before .before .before .before .before .before .before .before .before .before .before .before .args .loss))
-lent c = fits-sized (now (c .before .before .before .before .before .before .before .before .before .before .before .before .before .before .before .args .ends)) (now (c .before .before .before .before .before .before .before .before .before .before .before .before .before .before .before .args .marks)) (now (c .before .before .before .before .before .before .before .before .before .before .before .before .before .before .before .args .syndrome)) (now (c .before .before .before .before .before .before .before .before .before .before .before .before .before .before .before .args .loss)) (not-false _ (c .before .before .before .before .before .before .before .before .before .if1 .left))
-
-returns-3 : tie.Need-returns-3
-returns-3 c =
-    malformed (now (c .before .before .before .before .before .before .before .before .before .before .before .before .before .before .args .text)) (now (c .before .before .before .before .before .before .before .before .before .before .before .before .before .before .args .ends)) (now (c .before .before .before .before .before .before .before .before .before .before .before .before .before .before .args .marks)) (now (c .before .before .before .before .before .before .before .before .before .before .before .before .before .before .args .syndrome)) (now (c .before .before .before .before .before .before .before .before .before .before .before .before .before .before .args .loss))
-    (not-false _ (c .before .before .before .before .before .before .before .before .if1 .left))
-    (c .before .before .before .before .before .before .before .if2 .left)
-    _ _ _ _ _ _
-    (c .before .before .read-lines .ensures)
-    (c .enum-told .given .1)
-
 slice-aggregate-copy-numbers : tie.Need-slice-aggregate-copy-numbers
-slice-aggregate-copy-numbers c = sym (known (c .before) .holds .sized .ends-long)
+slice-aggregate-copy-numbers c = sym (c .before .before .read-lines .ensures .sized .ends-long)
 
 mul-copy-numbers : tie.Need-mul-copy-numbers
-mul-copy-numbers c =
-    let w = known (c .before) in
-    omega (arith, w .edges-are, w .holds .edge-limit)
+mul-copy-numbers c = omega (arith, few (c .before .before) .1)
 
 copy-numbers-requires : tie.Need-copy-numbers-requires
 copy-numbers-requires c κs =
-    let w = known (c .before .before) in
-    let y = lent (c .before .before) in
-    (omega (arith, w .edges-are, w .holds .edge-limit, w .holds .sized .ends-long), omega (arith, w .edges-are, w .holds .edge-limit, y .ends-long))
+    let k = c .before .before .before in
+    let few = few k in
+    let read = k .before .read-lines .ensures .sized .ends-long in
+    let lent = lent-sized (passed (k .before)) .ends-long in
+    (omega arith, omega arith)
 
 slice-aggregate-copy-bytes : tie.Need-slice-aggregate-copy-bytes
-slice-aggregate-copy-bytes c = sym (known (c .before .before .before .before .before .before) .holds .sized .marks-long)
+slice-aggregate-copy-bytes c =
+    let k = counted (c .before .before .before) in
+    sym (k .before .read-lines .ensures .sized .marks-long)
 
 copy-bytes-requires : tie.Need-copy-bytes-requires
 copy-bytes-requires c κs =
-    let w = known (c .before .before .before .before .before .before .before) in
-    let y = lent (c .before .before .before .before .before .before .before) in
-    (omega (arith, w .edges-are, w .holds .edge-limit, w .holds .sized .marks-long), omega (arith, w .edges-are, w .holds .edge-limit, y .marks-long))
+    let k = counted (c .before .before .before .before) in
+    let few = few k in
+    let read = k .before .read-lines .ensures .sized .marks-long in
+    let lent = lent-sized (passed (k .before)) .marks-long in
+    (omega arith, omega arith)
 
 slice-aggregate-copy-bytes-2 : tie.Need-slice-aggregate-copy-bytes-2
-slice-aggregate-copy-bytes-2 c = sym (known (c .before .before .before .before .before .before .before .before .before .before .before) .holds .sized .syndrome-long)
+slice-aggregate-copy-bytes-2 c =
+    let k = counted (ends-copied (c .before .before .before)) in
+    sym (k .before .read-lines .ensures .sized .syndrome-long)
 
 copy-bytes-requires-2 : tie.Need-copy-bytes-requires-2
 copy-bytes-requires-2 c κs =
-    let w = known (c .before .before .before .before .before .before .before .before .before .before .before .before) in
-    let y = lent (c .before .before .before .before .before .before .before .before .before .before .before .before) in
-    (omega (arith, w .vertices-are, w .holds .vertex-limit, w .holds .sized .syndrome-long), omega (arith, w .vertices-are, w .holds .vertex-limit, y .syndrome-long))
+    let k = counted (ends-copied (c .before .before .before .before)) in
+    let few = few k in
+    let read = k .before .read-lines .ensures .sized .syndrome-long in
+    let lent = lent-sized (passed (k .before)) .syndrome-long in
+    (omega arith, omega arith)
 
 slice-aggregate-copy-bytes-3 : tie.Need-slice-aggregate-copy-bytes-3
-slice-aggregate-copy-bytes-3 c = sym (known (c .before .before .before .before .before .before .before .before .before .before .before .before .before .before .before .before) .holds .sized .loss-long)
+slice-aggregate-copy-bytes-3 c =
+    let k = counted (ends-copied (marks-copied (c .before .before .before))) in
+    sym (k .before .read-lines .ensures .sized .loss-long)
 
 copy-bytes-requires-3 : tie.Need-copy-bytes-requires-3
 copy-bytes-requires-3 c κs =
-    let w = known (c .before .before .before .before .before .before .before .before .before .before .before .before .before .before .before .before .before) in
-    let y = lent (c .before .before .before .before .before .before .before .before .before .before .before .before .before .before .before .before .before) in
-    (omega (arith, w .edges-are, w .holds .edge-limit, w .holds .sized .loss-long), omega (arith, w .edges-are, w .holds .edge-limit, y .loss-long))
+    let k = counted (ends-copied (marks-copied (c .before .before .before .before))) in
+    let few = few k in
+    let read = k .before .read-lines .ensures .sized .loss-long in
+    let lent = lent-sized (passed (k .before)) .loss-long in
+    (omega arith, omega arith)
 
 same-length : tie.Need-same-length
 same-length c = search needs
@@ -104,29 +154,34 @@ same-length-3 c = search needs
 same-length-4 : tie.Need-same-length-4
 same-length-4 c = search needs
 
-returns-4 : tie.Need-returns-4
-returns-4 c =
-    all-filled (now (c .before .before .before .before .before .before .before .before .before .before .before .before .before .before .before .before .before .before .before .before .before .before .before .before .before .before .before .before .before .before .before .before .before .before .before .args .text)) (now (c .before .before .before .before .before .before .before .before .before .before .before .before .before .before .before .before .before .before .before .before .before .before .before .before .before .before .before .before .before .before .before .before .before .before .before .args .ends)) (now (c .before .before .before .before .before .before .before .before .before .before .before .before .before .before .before .before .before .before .before .before .before .before .before .before .before .before .before .before .before .before .before .before .before .before .before .args .marks)) (now (c .before .before .before .before .before .before .before .before .before .before .before .before .before .before .before .before .before .before .before .before .before .before .before .before .before .before .before .before .before .before .before .before .before .before .before .args .syndrome)) (now (c .before .before .before .before .before .before .before .before .before .before .before .before .before .before .before .before .before .before .before .before .before .before .before .before .before .before .before .before .before .before .before .before .before .before .before .args .loss))
-    (not-false _ (c .before .before .before .before .before .before .before .before .before .before .before .before .before .before .before .before .before .before .before .before .before .before .before .before .before .before .before .before .before .if1 .left))
-    (c .before .before .before .before .before .before .before .before .before .before .before .before .before .before .before .before .before .before .before .before .before .before .before .before .before .before .before .before .if2 .left)
-    _ _ _ _ _ _ _ _ _ _
-    (known (c .before .before .before .before .before .before .before .before .before .before .before .before .before .before .before .before .before .before .before .before))
-    (c .before .before .before .before .before .before .before .before .before .before .before .before .before .before .before .before .before .copy-numbers .ensures)
-    (c .before .before .before .before .before .before .before .before .before .before .before .before .copy-bytes .ensures)
-    (c .before .before .before .before .before .before .before .copy-bytes2 .ensures)
-    (c .before .before .copy-bytes3 .ensures)
+returns-3 : tie.Need-returns-3
+returns-3 c =
+    let loss = c .before .before in
+    let syndrome = syndrome-copied loss in
+    let marks = marks-copied syndrome in
+    let ends = ends-copied marks in
+    let k = counted ends in
+    let tests = passed (k .before) in
+    let s = start tests in
+    rw (same k)
+    (reads (now (s .args .text)) (lent s) (not-false _ (tests .before .if1 .left)) (tests .if2 .left) _ _ _ _ _ _ _ _
+    (k .before .read-lines .ensures)
+    (fills-vertices k)
+    (fills-edges k)
+    (ends .copy-numbers .ensures)
+    (marks .copy-bytes .ensures)
+    (syndrome .copy-bytes2 .ensures)
+    (loss .copy-bytes3 .ensures))
 
 pub read-spec : {M : Type 1} → statement M
 read-spec =
     tie.close
     (tie.spec
-    mul-fit
     returns
     returns-2
     read-lines-requires
     enum-known-reading
     enum-told
-    returns-3
     slice-aggregate-copy-numbers
     mul-copy-numbers
     copy-numbers-requires
@@ -140,4 +195,4 @@ read-spec =
     same-length-2
     same-length-3
     same-length-4
-    returns-4)
+    returns-3)

@@ -2,7 +2,7 @@
 -- first line, each turn reads the line at its position, and it moves on to the next. The loop's state is what the arrays hold, the
 -- reader's position and number, and the stage; a turn ends the reading or leads to a state with less of the text left. For the call of
 -- `take_line` each array is lent again. Of the functions that are called only their contracts are known. Assumes nothing.
-use Prim.Native.Nat.{ℕ, _<_, _^_}
+use Prim.Native.Nat.{ℕ, _*_, _<_, _^_}
 use mathlib.Core.Path.{_≡_, refl, sym, subst}
 use mathlib.Core.List.{List, [], _∷_}
 use native.Mathlib.Nat.{lt-trans}
@@ -40,7 +40,9 @@ use denote.Triple.Spec.{Meets, tripleOf}
 use denote.Triple.Table.{entered, cited}
 use denote.Triple.Walked.{says, Stays, stay-none-slice, stay-ref, walkOf, goes-none-slice, goes-ref, Walks, ends-at, walked, walk-meets}
 use denote.Exit.{yes}
+use Rattle.model.specs.Board.{vertexLimit, edgeLimit}
 use Rattle.model.specs.LineNumbers.{lineNumber}
+use Rattle.model.specs.TextOutcomes.{Buffers, buffersOf}
 use Rattle.model.specs.declared.refusal.Refusal.{Refusal}
 use Rattle.model.specs.declared.refusal.Refusal.the-variants.{MalformedLine}
 use Rattle.model.specs.declared.answers.Reading.{Reading}
@@ -54,13 +56,13 @@ use Rattle.text.specs.declared.line.LineRead.{LineRead}
 use Rattle.text.specs.declared.line.LineRead.the-variants as lineread
 use Rattle.text.specs.declared.stage.Stage.{Stage}
 use Rattle.text.specs.declared.stage.Stage.the-variants as stage
-use Rattle.text.specs.Lines.{ReadsLine}
+use Rattle.text.specs.LineReadings.{ReadsLine}
 use Rattle.text.specs.Scratch.{Sized, ReadsInto}
 use Rattle.text.specs.Stages.{Takes}
 use Rattle.text.proofs.Bodies.{statement, after}
 use Rattle.text.proofs.ReadState.{State, Less, less-wf, refusal, malformed-is, refusal-is, counts-is, start-is}
 use Rattle.text.proofs.NumberLaws.{first-number}
-use Rattle.text.proofs.Reader.{textValue, Text}
+use Rattle.text.proofs.ReaderOwnership.{textValue, Text}
 use Rattle.text.proofs.ReaderCalls.{LinesOf, NextLine, MovesOn, reader, calls-lines-of, calls-next-line, calls-moved-on}
 use Rattle.text.proofs.LineLoans.{Ends, Bytes, pointer, TakeLine, Lent-at, calls-take-line}
 use Rattle.text.proofs.StageLaws.{starts, within, unread, never-start, untaken, onward, finished, goes-on}
@@ -68,18 +70,18 @@ use Rattle.text.proofs.line.Line as Line
 use Rattle.text.proofs.line.Line.Laws as Line′
 use Rattle.text.proofs.line.LineRead as LineRead
 use Rattle.text.proofs.line.LineRead.Laws as LineRead′
-use Rattle.text.proofs.lines.Lines.Laws as Reader′
+use Rattle.text.proofs.reader.Lines.Laws as Reader′
 use Rattle.text.proofs.stage.Stage as Stage
 use Rattle.text.proofs.stage.Stage.Laws as Stage′
-use Rattle.text.proofs.lines.lines_of.Symbol as lines-of-def
-use Rattle.text.proofs.lines.lines_of.Symbol.{name as #lines-of}
-use Rattle.text.proofs.lines.lines_of.Met as lines-of-met
-use Rattle.text.proofs.lines.next_line.Symbol as next-line-def
-use Rattle.text.proofs.lines.next_line.Symbol.{name as #next-line}
-use Rattle.text.proofs.lines.next_line.Met as next-line-met
-use Rattle.text.proofs.lines.moved_on.Symbol as moved-on-def
-use Rattle.text.proofs.lines.moved_on.Symbol.{name as #moved-on}
-use Rattle.text.proofs.lines.moved_on.Met as moved-on-met
+use Rattle.text.proofs.reader.lines_of.Symbol as lines-of-def
+use Rattle.text.proofs.reader.lines_of.Symbol.{name as #lines-of}
+use Rattle.text.proofs.reader.lines_of.Met as lines-of-met
+use Rattle.text.proofs.reader.next_line.Symbol as next-line-def
+use Rattle.text.proofs.reader.next_line.Symbol.{name as #next-line}
+use Rattle.text.proofs.reader.next_line.Met as next-line-met
+use Rattle.text.proofs.reader.moved_on.Symbol as moved-on-def
+use Rattle.text.proofs.reader.moved_on.Symbol.{name as #moved-on}
+use Rattle.text.proofs.reader.moved_on.Met as moved-on-met
 use Rattle.text.proofs.stage.take_line.Symbol as take-line-def
 use Rattle.text.proofs.stage.take_line.Symbol.{name as #take-line}
 use Rattle.text.proofs.stage.take_line.Met as take-line-met
@@ -91,13 +93,13 @@ use Rattle.text.proofs.reading.read_lines.Code.Mir as code-mir
 
 -- the slots of the arrays
 abbrev endsSlot : Slot 5
-endsSlot = ArrayOf (plain (λ _. u16)) (λ _. tt) 8192
+endsSlot = ArrayOf (plain (λ _. u16)) (λ _. tt) (2 * edgeLimit)
 
 abbrev bytesSlot : ℕ → Slot 5
 bytesSlot n = ArrayOf (plain (λ _. u8)) (λ _. tt) n
 
 abbrev kept : Stays (read-lines.ended .signature .params) (read-lines.ended .kept)
-kept = (stay-none-slice (0 ∷ []) tt (plain (λ _. u8)) yes, (stay-ref (1 ∷ []) tt endsSlot, (stay-ref (2 ∷ []) tt (bytesSlot 4096), (stay-ref (3 ∷ []) tt (bytesSlot 1024), (stay-ref (4 ∷ []) tt (bytesSlot 4096), tt)))))
+kept = (stay-none-slice (0 ∷ []) tt (plain (λ _. u8)) yes, (stay-ref (1 ∷ []) tt endsSlot, (stay-ref (2 ∷ []) tt (bytesSlot edgeLimit), (stay-ref (3 ∷ []) tt (bytesSlot vertexLimit), (stay-ref (4 ∷ []) tt (bytesSlot edgeLimit), tt)))))
 
 -- the locals' types
 abbrev word : Ty
@@ -110,7 +112,7 @@ abbrev textTy : Ty
 textTy = sliceTy (tyRef (named 0) imm (tyInt w8))
 
 abbrev endsTy : Lifetime → Ty
-endsTy ℓ = tyRef ℓ mut (tyArray (tyInt w16) 8192)
+endsTy ℓ = tyRef ℓ mut (tyArray (tyInt w16) (2 * edgeLimit))
 
 abbrev bytesTy : ℕ → Lifetime → Ty
 bytesTy n ℓ = tyRef ℓ mut (tyArray (tyInt w8) n)
@@ -150,14 +152,18 @@ module _ {M : Type 1} (𝓤 : URA M) (H : Heap 𝓤) (A : Atoms 𝓤) (W : Given
   abbrev holds : Ty → ℕ → Val → Item 𝓤
   holds τ l v = ‵ (fat fullShare τ l 0 v)
 
-  -- all that the function owns of its parameters, before the locals
-  abbrev Owned : List ℕ → List ℕ → List ℕ → List ℕ → List (Item 𝓤) → List (Item 𝓤)
-  Owned es ms ss xs Γ = ‵ (flft κ₀ q₀) ∷ ‵ (Text κ₀ text) ∷ Lent-at 𝓤 H A W mem run κ₁ κ₂ κ₃ κ₄ q₁ q₂ q₃ q₄ ends marks syndrome loss es ms ss xs Γ
+  -- what the arrays hold at the begin
+  abbrev lent : Buffers
+  lent = buffersOf (now ends) (now marks) (now syndrome) (now loss)
 
-  exits : (es ms ss xs : List ℕ) (r : Reading) → Is Reading.the-row r (Reading′.lowered r ∷ []) → ReadsInto (now text) r es ms ss xs → ent 𝓤 (⋆ 𝓤 H A (Owned es ms ss xs [])) (Post (Reading′.lowered r))
-  exits es ms ss xs r is reads =
-      qed W (Owned es ms ss xs []) ∵
-      suffices ! _ (ends-at 𝓤 H A read-lines.ended kept (read-lines.clauses 𝓤 H A mem run) W bound (Reading′.lowered r) r (tt, (es, (ms, (ss, (xs, tt))))) (tt, (tt, (tt, (tt, (tt, tt)))))) $
+  -- all that the function owns of its parameters, before the locals
+  abbrev Owned : Buffers → List (Item 𝓤) → List (Item 𝓤)
+  Owned b Γ = ‵ (flft κ₀ q₀) ∷ ‵ (Text κ₀ text) ∷ Lent-at 𝓤 H A W mem run κ₁ κ₂ κ₃ κ₄ q₁ q₂ q₃ q₄ ends marks syndrome loss b Γ
+
+  exits : (b : Buffers) (r : Reading) → Is Reading.the-row r (Reading′.lowered r ∷ []) → ReadsInto (now text) r b → ent 𝓤 (⋆ 𝓤 H A (Owned b [])) (Post (Reading′.lowered r))
+  exits b r is reads =
+      qed W (Owned b []) ∵
+      suffices ! _ (ends-at 𝓤 H A read-lines.ended kept (read-lines.clauses 𝓤 H A mem run) W bound (Reading′.lowered r) r (tt, (b .ends, (b .marks, (b .syndrome, (b .loss, tt))))) (tt, (tt, (tt, (tt, (tt, tt)))))) $
       says ! reads $ nothing ! $ move ! (10 ∷ 0 ∷ []) $ join ! $ move ! (9 ∷ 0 ∷ []) $ join ! $ move ! (8 ∷ 0 ∷ []) $ join ! $ move ! (7 ∷ 0 ∷ []) $ join ! $ move ! (1 ∷ 0 ∷ []) $ join ! $ frame ! $
       nothing ! $ move ! (5 ∷ 0 ∷ []) $ fjoin ! $ move ! (4 ∷ 0 ∷ []) $ fjoin ! $ move ! (3 ∷ 0 ∷ []) $ fjoin ! $ move ! (2 ∷ 0 ∷ []) $ fjoin ! $ move ! (1 ∷ 0 ∷ []) $ fjoin ! $ frame ! $
       owned ! Reading.the-row (Is Reading.the-row) (Enums.makes Reading.the-type Reading′.the-plain 𝓤 H A) r _ is $ done !
@@ -179,47 +185,47 @@ module _ {M : Type 1} (𝓤 : URA M) (H : Heap 𝓤) (A : Atoms 𝓤) (W : Given
 
     abbrev Env₀ : Env 𝓤 H
     Env₀ =
-        (Reading′.mir, l₀) ∷ (textTy, l₁) ∷ (endsTy (named 1), l₂) ∷ (bytesTy 4096 (named 2), l₃) ∷ (bytesTy 1024 (named 3), l₄) ∷ (bytesTy 4096 (named 4), l₅)
+        (Reading′.mir, l₀) ∷ (textTy, l₁) ∷ (endsTy (named 1), l₂) ∷ (bytesTy edgeLimit (named 2), l₃) ∷ (bytesTy vertexLimit (named 3), l₄) ∷ (bytesTy edgeLimit (named 4), l₅)
         ∷ (Reader′.mir erased, l₆) ∷ (Stage′.mir, l₇) ∷ (Line′.mir, l₈) ∷ (word, l₉) ∷ (word, l₁₀) ∷ (half, l₁₁)
         ∷ (half, l₁₂) ∷ (LineRead′.mir, l₁₃) ∷ (Reader′.mir erased, l₁₄) ∷ (word, l₁₅) ∷ (Refusal′.mir, l₁₆) ∷ (endsTy erased, l₁₇)
-        ∷ (bytesTy 4096 erased, l₁₈) ∷ (bytesTy 1024 erased, l₁₉) ∷ (bytesTy 4096 erased, l₂₀) ∷ (word, l₂₁) ∷ (Refusal′.mir, l₂₂) ∷ (Reader′.mir erased, l₂₃)
+        ∷ (bytesTy edgeLimit erased, l₁₈) ∷ (bytesTy vertexLimit erased, l₁₉) ∷ (bytesTy edgeLimit erased, l₂₀) ∷ (word, l₂₁) ∷ (Refusal′.mir, l₂₂) ∷ (Reader′.mir erased, l₂₃)
         ∷ (word, l₂₄) ∷ (word, l₂₅) ∷ (tyBool, l₂₆) ∷ (word, l₂₇) ∷ (word, l₂₈) ∷ []
 
     -- The locals, of which those that a turn leaves behind hold what is given here; then that each of them dies. Ten entries stand before
     -- them, so that local _i stands at 10 + i, and that it dies at 39 + i.
     abbrev Locals : Item 𝓤 → Item 𝓤 → Item 𝓤 → Item 𝓤 → Item 𝓤 → Item 𝓤 → List (Item 𝓤)
     Locals c₀ c₆ c₇ c₉ c₁₀ c₁₃ =
-        c₀ ∷ holds textTy l₁ (textValue text) ∷ holds (endsTy (named 1)) l₂ (pointer ends) ∷ holds (bytesTy 4096 (named 2)) l₃ (pointer marks)
-        ∷ holds (bytesTy 1024 (named 3)) l₄ (pointer syndrome) ∷ holds (bytesTy 4096 (named 4)) l₅ (pointer loss) ∷ c₆ ∷ c₇
+        c₀ ∷ holds textTy l₁ (textValue text) ∷ holds (endsTy (named 1)) l₂ (pointer ends) ∷ holds (bytesTy edgeLimit (named 2)) l₃ (pointer marks)
+        ∷ holds (bytesTy vertexLimit (named 3)) l₄ (pointer syndrome) ∷ holds (bytesTy edgeLimit (named 4)) l₅ (pointer loss) ∷ c₆ ∷ c₇
         ∷ room Line′.mir l₈ ∷ c₉ ∷ c₁₀ ∷ room half l₁₁
         ∷ room half l₁₂ ∷ c₁₃ ∷ room (Reader′.mir erased) l₁₄ ∷ room word l₁₅
-        ∷ room Refusal′.mir l₁₆ ∷ room (endsTy erased) l₁₇ ∷ room (bytesTy 4096 erased) l₁₈ ∷ room (bytesTy 1024 erased) l₁₉
-        ∷ room (bytesTy 4096 erased) l₂₀ ∷ room word l₂₁ ∷ room Refusal′.mir l₂₂ ∷ room (Reader′.mir erased) l₂₃
+        ∷ room Refusal′.mir l₁₆ ∷ room (endsTy erased) l₁₇ ∷ room (bytesTy edgeLimit erased) l₁₈ ∷ room (bytesTy vertexLimit erased) l₁₉
+        ∷ room (bytesTy edgeLimit erased) l₂₀ ∷ room word l₂₁ ∷ room Refusal′.mir l₂₂ ∷ room (Reader′.mir erased) l₂₃
         ∷ room word l₂₄ ∷ room word l₂₅ ∷ room tyBool l₂₆ ∷ room word l₂₇
         ∷ room word l₂₈
-        ∷ ‵ (fdies Reading′.mir l₀) ∷ ‵ (fdies textTy l₁) ∷ ‵ (fdies (endsTy (named 1)) l₂) ∷ ‵ (fdies (bytesTy 4096 (named 2)) l₃) ∷ ‵ (fdies (bytesTy 1024 (named 3)) l₄) ∷ ‵ (fdies (bytesTy 4096 (named 4)) l₅)
+        ∷ ‵ (fdies Reading′.mir l₀) ∷ ‵ (fdies textTy l₁) ∷ ‵ (fdies (endsTy (named 1)) l₂) ∷ ‵ (fdies (bytesTy edgeLimit (named 2)) l₃) ∷ ‵ (fdies (bytesTy vertexLimit (named 3)) l₄) ∷ ‵ (fdies (bytesTy edgeLimit (named 4)) l₅)
         ∷ ‵ (fdies (Reader′.mir erased) l₆) ∷ ‵ (fdies Stage′.mir l₇) ∷ ‵ (fdies Line′.mir l₈) ∷ ‵ (fdies word l₉) ∷ ‵ (fdies word l₁₀) ∷ ‵ (fdies half l₁₁)
         ∷ ‵ (fdies half l₁₂) ∷ ‵ (fdies LineRead′.mir l₁₃) ∷ ‵ (fdies (Reader′.mir erased) l₁₄) ∷ ‵ (fdies word l₁₅) ∷ ‵ (fdies Refusal′.mir l₁₆) ∷ ‵ (fdies (endsTy erased) l₁₇)
-        ∷ ‵ (fdies (bytesTy 4096 erased) l₁₈) ∷ ‵ (fdies (bytesTy 1024 erased) l₁₉) ∷ ‵ (fdies (bytesTy 4096 erased) l₂₀) ∷ ‵ (fdies word l₂₁) ∷ ‵ (fdies Refusal′.mir l₂₂) ∷ ‵ (fdies (Reader′.mir erased) l₂₃)
+        ∷ ‵ (fdies (bytesTy edgeLimit erased) l₁₈) ∷ ‵ (fdies (bytesTy vertexLimit erased) l₁₉) ∷ ‵ (fdies (bytesTy edgeLimit erased) l₂₀) ∷ ‵ (fdies word l₂₁) ∷ ‵ (fdies Refusal′.mir l₂₂) ∷ ‵ (fdies (Reader′.mir erased) l₂₃)
         ∷ ‵ (fdies word l₂₄) ∷ ‵ (fdies word l₂₅) ∷ ‵ (fdies tyBool l₂₆) ∷ ‵ (fdies word l₂₇) ∷ ‵ (fdies word l₂₈) ∷ []
 
     -- a function that returns frees its locals, and what it was lent goes to its caller
-    freed : (es ms ss xs : List ℕ) (r : Reading) → Is Reading.the-row r (Reading′.lowered r ∷ []) → ReadsInto (now text) r es ms ss xs → Sq W (Owned es ms ss xs (Locals (room Reading′.mir l₀) (room (Reader′.mir erased) l₆) (room Stage′.mir l₇) (room word l₉) (room word l₁₀) (room LineRead′.mir l₁₃))) (frees Env₀ (prop (Post (Reading′.lowered r))))
-    freed es ms ss xs r is reads =
+    freed : (b : Buffers) (r : Reading) → Is Reading.the-row r (Reading′.lowered r ∷ []) → ReadsInto (now text) r b → Sq W (Owned b (Locals (room Reading′.mir l₀) (room (Reader′.mir erased) l₆) (room Stage′.mir l₇) (room word l₉) (room word l₁₀) (room LineRead′.mir l₁₃))) (frees Env₀ (prop (Post (Reading′.lowered r))))
+    freed b r is reads =
         forget ! 11 refl $ forget ! 12 refl $ forget ! 13 refl $ forget ! 14 refl $ forget ! 15 refl $ move ! (10 ∷ 39 ∷ []) $ free1 ! $ move ! (10 ∷ 38 ∷ []) $ free1 ! $ move ! (10 ∷ 37 ∷ []) $ free1 ! $ move ! (10 ∷ 36 ∷ []) $ free1 ! $ move ! (10 ∷ 35 ∷ []) $ free1 ! $ move ! (10 ∷ 34 ∷ []) $ free1 ! $
         move ! (10 ∷ 33 ∷ []) $ free1 ! $ move ! (10 ∷ 32 ∷ []) $ free1 ! $ move ! (10 ∷ 31 ∷ []) $ free1 ! $ move ! (10 ∷ 30 ∷ []) $ free1 ! $ move ! (10 ∷ 29 ∷ []) $ free1 ! $ move ! (10 ∷ 28 ∷ []) $ free1 ! $
         move ! (10 ∷ 27 ∷ []) $ free1 ! $ move ! (10 ∷ 26 ∷ []) $ free1 ! $ move ! (10 ∷ 25 ∷ []) $ free1 ! $ move ! (10 ∷ 24 ∷ []) $ free1 ! $ move ! (10 ∷ 23 ∷ []) $ free1 ! $ move ! (10 ∷ 22 ∷ []) $ free1 ! $
         move ! (10 ∷ 21 ∷ []) $ free1 ! $ move ! (10 ∷ 20 ∷ []) $ free1 ! $ move ! (10 ∷ 19 ∷ []) $ free1 ! $ move ! (10 ∷ 18 ∷ []) $ free1 ! $ move ! (10 ∷ 17 ∷ []) $ free1 ! $ move ! (10 ∷ 16 ∷ []) $ free1 ! $
-        move ! (10 ∷ 15 ∷ []) $ free1 ! $ move ! (10 ∷ 14 ∷ []) $ free1 ! $ move ! (10 ∷ 13 ∷ []) $ free1 ! $ move ! (10 ∷ 12 ∷ []) $ free1 ! $ move ! (10 ∷ 11 ∷ []) $ free1 ! $ free0 ! $ by ! (exits es ms ss xs r is reads)
+        move ! (10 ∷ 15 ∷ []) $ free1 ! $ move ! (10 ∷ 14 ∷ []) $ free1 ! $ move ! (10 ∷ 13 ∷ []) $ free1 ! $ move ! (10 ∷ 12 ∷ []) $ free1 ! $ move ! (10 ∷ 11 ∷ []) $ free1 ! $ free0 ! $ by ! (exits b r is reads)
 
     -- within a turn: the reader that the turn began with, the stage, and what is known of the line that was read
-    abbrev Standing : State (now text) → List ℕ → List ℕ → List ℕ → List ℕ → Stage → Item 𝓤 → Item 𝓤 → Item 𝓤 → List (Item 𝓤)
-    Standing s es ms ss xs st c₉ c₁₀ c₁₃ =
-        Owned es ms ss xs (Locals (room Reading′.mir l₀) (holds (Reader′.mir erased) l₆ (Reader′.lowered (reader text (s .at) (s .number)))) (holds Stage′.mir l₇ (Stage′.lowered st)) c₉ c₁₀ c₁₃)
+    abbrev Standing : State (now text) → Buffers → Stage → Item 𝓤 → Item 𝓤 → Item 𝓤 → List (Item 𝓤)
+    Standing s b st c₉ c₁₀ c₁₃ =
+        Owned b (Locals (room Reading′.mir l₀) (holds (Reader′.mir erased) l₆ (Reader′.lowered (reader text (s .at) (s .number)))) (holds Stage′.mir l₇ (Stage′.lowered st)) c₉ c₁₀ c₁₃)
 
     -- before it
     abbrev Before : State (now text) → List (Item 𝓤)
-    Before s = Standing s (s .ends) (s .marks) (s .syndrome) (s .loss) (s .stage) (room word l₉) (room word l₁₀) (room LineRead′.mir l₁₃)
+    Before s = Standing s (s .arrays) (s .stage) (room word l₉) (room word l₁₀) (room LineRead′.mir l₁₃)
 
     -- what is to hold once the loop is left, which only a return does, and once a turn is over
     abbrev Left : Out → SProp 𝓤
@@ -229,12 +235,12 @@ module _ {M : Type 1} (𝓤 : URA M) (H : Heap 𝓤) (A : Atoms 𝓤) (W : Given
     Then s = afterTurn 𝓤 H (Below 𝓤 H A (Less (now text)) Before s) Left
 
     -- the sheet goes on: the reader moves on, and the reading is over where nothing is left of the text
-    goes-further : (s : State (now text)) (l : Line) (next k : ℕ) (reads : ReadsLine (now text) (s .at) (s .number) (lineread.Line l next k)) (next-fits : next < 2 ^ 64) (k-fits : k < 2 ^ 64) (es ms ss xs : List ℕ) (n m : ℕ) (last : Line)
-        → Takes (s .stage) l (s .ends) (s .marks) (s .syndrome) (s .loss) (stage.Sheet n m last) es ms ss xs → Is Stage.the-row (stage.Sheet n m last) (Stage′.lowered (stage.Sheet n m last) ∷ [])
-        → Sq W (Standing s es ms ss xs (stage.Sheet n m last) (holds word l₉ (vint w64 next)) (holds word l₁₀ (vint w64 k)) (room LineRead′.mir l₁₃)) (runs (𝓣 .C) (𝓣 .Λ) Env₀ stage-match (anyQ (afterSeq 𝓤 H (Wp 𝓤 H (𝓣 .C) (𝓣 .Λ) Env₀ after-stage (Then s)) (Then s))))
+    goes-further : (s : State (now text)) (l : Line) (next k : ℕ) (reads : ReadsLine (now text) (s .at) (s .number) (lineread.Line l next k)) (next-fits : next < 2 ^ 64) (k-fits : k < 2 ^ 64) (b : Buffers) (n m : ℕ) (last : Line)
+        → Takes (s .stage) l (s .arrays) (stage.Sheet n m last) b → Is Stage.the-row (stage.Sheet n m last) (Stage′.lowered (stage.Sheet n m last) ∷ [])
+        → Sq W (Standing s b (stage.Sheet n m last) (holds word l₉ (vint w64 next)) (holds word l₁₀ (vint w64 k)) (room LineRead′.mir l₁₃)) (runs (𝓣 .C) (𝓣 .Λ) Env₀ stage-match (anyQ (afterSeq 𝓤 H (Wp 𝓤 H (𝓣 .C) (𝓣 .Λ) Env₀ after-stage (Then s)) (Then s))))
     unfolding afterTurn
-    goes-further s l next k reads next-fits k-fits es ms ss xs n m last takes is =
-        let w = onward (now text) (s .ends) (s .marks) (s .syndrome) (s .loss) (s .at) (s .number) (s .stage) (s .reached) l next k reads es ms ss xs n m last takes in
+    goes-further s l next k reads next-fits k-fits b n m last takes is =
+        let w = onward (now text) (s .arrays) (s .at) (s .number) (s .stage) (s .reached) l next k reads b n m last takes in
         let fields = Enums.owed Stage.the-type Stage′.the-laws (stage.Sheet n m last) _ is in
         by-variants ! 17 (whole !) (load ! (from ! (vrt ! refl (fld ! refl (stop !)))) (look-tag ! 17 (whole !))) tt (
           (λ e.
@@ -255,31 +261,28 @@ module _ {M : Type 1} (𝓤 : URA M) (H : Heap 𝓤) (A : Atoms 𝓤) (W : Given
               assigns ! (un ! (load ! (from ! (stop !)) (look ! 21 refl)) (record { fits = lt-trans (fields .0 .1) (lit< tt) })) (from ! (stop !)) (init ! 37 refl (tt, record { fits = lt-trans (fields .0 .1) (lit< tt) })) $
               assigns ! (un ! (load ! (from ! (stop !)) (look ! 22 refl)) (record { fits = lt-trans (fields .1 .0 .1) (lit< tt) })) (from ! (stop !)) (init ! 38 refl (tt, record { fits = lt-trans (fields .1 .0 .1) (lit< tt) })) $
               assigns ! (agg ! (and-then ! (lit ! tt) (and-then ! (load ! (from ! (stop !)) (look ! 37 refl)) (and-then ! (load ! (from ! (stop !)) (look ! 38 refl)) (no-more !))))) (from ! (stop !)) (init ! 10 refl (Enums.lawful Reading.the-type Reading′.the-laws 𝓤 H A W tt .typed (reading.Counts n m) _ (counts-is n m (lt-trans (fields .0 .1) (lit< tt)) (lt-trans (fields .1 .0 .1) (lit< tt))) .0)) $
-              returns-within ! Post refl (look ! 10 refl) $ forget ! 10 refl $ forget ! 16 refl $ forget ! 17 refl $ forget ! 21 refl $ forget ! 22 refl $ forget ! 34 refl $ forget ! 35 refl $ forget ! 36 refl $ forget ! 37 refl $ forget ! 38 refl $ freed es ms ss xs (reading.Counts n m) (counts-is n m (lt-trans (fields .0 .1) (lit< tt)) (lt-trans (fields .1 .0 .1) (lit< tt))) (finished (now text) es ms ss xs (s .at) next k n m last w (leb→le (length (now text)) next over)))
+              returns-within ! Post refl (look ! 10 refl) $ forget ! 10 refl $ forget ! 16 refl $ forget ! 17 refl $ forget ! 21 refl $ forget ! 22 refl $ forget ! 34 refl $ forget ! 35 refl $ forget ! 36 refl $ forget ! 37 refl $ forget ! 38 refl $ freed b (reading.Counts n m) (counts-is n m (lt-trans (fields .0 .1) (lit< tt)) (lt-trans (fields .1 .0 .1) (lit< tt))) (finished (now text) b (s .at) next k n m last w (leb→le (length (now text)) next over)))
               (λ more. let there = nleb→lt (length (now text)) next more in
               skips ! $ forget ! 21 refl $ forget ! 22 refl $ forget ! 34 refl $ forget ! 35 refl $ forget ! 36 refl $ again ! (Less (now text)) Before s (record {
-                ends = es;
-                marks = ms;
-                syndrome = ss;
-                loss = xs;
+                arrays = b;
                 at = next;
                 number = k;
                 stage = stage.Sheet n m last;
                 at-fits = next-fits;
                 number-fits = k-fits;
                 stage-is = is;
-                reached = goes-on (now text) es ms ss xs (s .at) next k n m last w there;
+                reached = goes-on (now text) b (s .at) next k n m last w there;
               }) (omega (arith, w .further))))),
           ((λ e. absurd (miss (0 ∷ 2 ∷ []) 1 tt e)), tt),
         )
 
-    stage-matched : (s : State (now text)) (l : Line) (next k : ℕ) (reads : ReadsLine (now text) (s .at) (s .number) (lineread.Line l next k)) (next-fits : next < 2 ^ 64) (k-fits : k < 2 ^ 64) (es ms ss xs : List ℕ) (r : Stage)
-        → Takes (s .stage) l (s .ends) (s .marks) (s .syndrome) (s .loss) r es ms ss xs → Is Stage.the-row r (Stage′.lowered r ∷ [])
-        → Sq W (Standing s es ms ss xs r (holds word l₉ (vint w64 next)) (holds word l₁₀ (vint w64 k)) (room LineRead′.mir l₁₃)) (runs (𝓣 .C) (𝓣 .Λ) Env₀ stage-match (anyQ (afterSeq 𝓤 H (Wp 𝓤 H (𝓣 .C) (𝓣 .Λ) Env₀ after-stage (Then s)) (Then s))))
+    stage-matched : (s : State (now text)) (l : Line) (next k : ℕ) (reads : ReadsLine (now text) (s .at) (s .number) (lineread.Line l next k)) (next-fits : next < 2 ^ 64) (k-fits : k < 2 ^ 64) (b : Buffers) (r : Stage)
+        → Takes (s .stage) l (s .arrays) r b → Is Stage.the-row r (Stage′.lowered r ∷ [])
+        → Sq W (Standing s b r (holds word l₉ (vint w64 next)) (holds word l₁₀ (vint w64 k)) (room LineRead′.mir l₁₃)) (runs (𝓣 .C) (𝓣 .Λ) Env₀ stage-match (anyQ (afterSeq 𝓤 H (Wp 𝓤 H (𝓣 .C) (𝓣 .Λ) Env₀ after-stage (Then s)) (Then s))))
     unfolding afterTurn
-    stage-matched s l next k reads next-fits k-fits es ms ss xs stage.Start takes is = absurd (never-start (now text) (s .ends) (s .marks) (s .syndrome) (s .loss) (s .at) (s .number) (s .stage) (s .reached) l next k reads es ms ss xs takes)
-    stage-matched s l next k reads next-fits k-fits es ms ss xs (stage.Sheet n m last) takes is = goes-further s l next k reads next-fits k-fits es ms ss xs n m last takes is
-    stage-matched s l next k reads next-fits k-fits es ms ss xs stage.Malformed takes is =
+    stage-matched s l next k reads next-fits k-fits b stage.Start takes is = absurd (never-start (now text) (s .arrays) (s .at) (s .number) (s .stage) (s .reached) l next k reads b takes)
+    stage-matched s l next k reads next-fits k-fits b (stage.Sheet n m last) takes is = goes-further s l next k reads next-fits k-fits b n m last takes is
+    stage-matched s l next k reads next-fits k-fits b stage.Malformed takes is =
         by-variants ! 17 (whole !) (load ! (from ! (vrt ! refl (fld ! refl (stop !)))) (look-tag ! 17 (whole !))) tt (
           (λ e. absurd (miss (1 ∷ []) 2 tt e)),
           (
@@ -287,13 +290,13 @@ module _ {M : Type 1} (𝓤 : URA M) (H : Heap 𝓤) (A : Atoms 𝓤) (W : Given
                 assigns ! (of-opd ! (load ! (from ! (fld ! refl (stop !))) (look-in ! 16 (sub ! 2 refl (whole !))))) (from ! (stop !)) (init ! 31 refl (tt, record { fits = s .number-fits })) $
                 assigns ! (agg ! (and-then ! (lit ! tt) (and-then ! (load ! (from ! (stop !)) (look ! 31 refl)) (no-more !)))) (from ! (stop !)) (init ! 32 refl (Enums.lawful Refusal.the-type Refusal′.the-laws 𝓤 H A W tt .typed (MalformedLine (s .number)) _ (malformed-is (s .number) (s .number-fits)) .0)) $
                 assigns ! (agg ! (and-then ! (lit ! tt) (and-then ! (load ! (from ! (stop !)) (look ! 32 refl)) (no-more !)))) (from ! (stop !)) (init ! 10 refl (Enums.lawful Reading.the-type Reading′.the-laws 𝓤 H A W tt .typed (refusal (s .number)) _ (refusal-is (s .number) (s .number-fits)) .0)) $
-                returns-within ! Post refl (look ! 10 refl) $ forget ! 10 refl $ forget ! 16 refl $ forget ! 17 refl $ forget ! 31 refl $ forget ! 32 refl $ forget ! 19 refl $ forget ! 20 refl $ freed es ms ss xs (refusal (s .number)) (refusal-is (s .number) (s .number-fits)) (untaken (now text) (s .ends) (s .marks) (s .syndrome) (s .loss) (s .at) (s .number) (s .stage) (s .reached) l next k reads es ms ss xs takes)),
+                returns-within ! Post refl (look ! 10 refl) $ forget ! 10 refl $ forget ! 16 refl $ forget ! 17 refl $ forget ! 31 refl $ forget ! 32 refl $ forget ! 19 refl $ forget ! 20 refl $ freed b (refusal (s .number)) (refusal-is (s .number) (s .number-fits)) (untaken (now text) (s .arrays) (s .at) (s .number) (s .stage) (s .reached) l next k reads b takes)),
             tt,
           ),
         )
 
     line-matched : (s : State (now text)) (r : LineRead) → ReadsLine (now text) (s .at) (s .number) r → Is LineRead.the-row r (LineRead′.lowered r ∷ [])
-        → Sq W (Standing s (s .ends) (s .marks) (s .syndrome) (s .loss) (s .stage) (room word l₉) (room word l₁₀) (holds LineRead′.mir l₁₃ (LineRead′.lowered r))) (runs (𝓣 .C) (𝓣 .Λ) Env₀ line-match (anyQ (afterSeq 𝓤 H (Wp 𝓤 H (𝓣 .C) (𝓣 .Λ) Env₀ after-line (Then s)) (Then s))))
+        → Sq W (Standing s (s .arrays) (s .stage) (room word l₉) (room word l₁₀) (holds LineRead′.mir l₁₃ (LineRead′.lowered r))) (runs (𝓣 .C) (𝓣 .Λ) Env₀ line-match (anyQ (afterSeq 𝓤 H (Wp 𝓤 H (𝓣 .C) (𝓣 .Λ) Env₀ after-line (Then s)) (Then s))))
     unfolding afterTurn
     line-matched s lineread.Malformed reads is =
         by-variants ! 23 (whole !) (load ! (from ! (vrt ! refl (fld ! refl (stop !)))) (look-tag ! 23 (whole !))) tt (
@@ -303,7 +306,7 @@ module _ {M : Type 1} (𝓤 : URA M) (H : Heap 𝓤) (A : Atoms 𝓤) (W : Given
                 assigns ! (of-opd ! (load ! (from ! (fld ! refl (stop !))) (look-in ! 16 (sub ! 2 refl (whole !))))) (from ! (stop !)) (init ! 25 refl (tt, record { fits = s .number-fits })) $
                 assigns ! (agg ! (and-then ! (lit ! tt) (and-then ! (load ! (from ! (stop !)) (look ! 25 refl)) (no-more !)))) (from ! (stop !)) (init ! 26 refl (Enums.lawful Refusal.the-type Refusal′.the-laws 𝓤 H A W tt .typed (MalformedLine (s .number)) _ (malformed-is (s .number) (s .number-fits)) .0)) $
                 assigns ! (agg ! (and-then ! (lit ! tt) (and-then ! (load ! (from ! (stop !)) (look ! 26 refl)) (no-more !)))) (from ! (stop !)) (init ! 10 refl (Enums.lawful Reading.the-type Reading′.the-laws 𝓤 H A W tt .typed (refusal (s .number)) _ (refusal-is (s .number) (s .number-fits)) .0)) $
-                returns-within ! Post refl (look ! 10 refl) $ forget ! 10 refl $ forget ! 16 refl $ forget ! 17 refl $ forget ! 25 refl $ forget ! 26 refl $ forget ! 23 refl $ freed (s .ends) (s .marks) (s .syndrome) (s .loss) (refusal (s .number)) (refusal-is (s .number) (s .number-fits)) (unread (now text) (s .ends) (s .marks) (s .syndrome) (s .loss) (s .at) (s .number) (s .stage) (s .reached) reads)),
+                returns-within ! Post refl (look ! 10 refl) $ forget ! 10 refl $ forget ! 16 refl $ forget ! 17 refl $ forget ! 25 refl $ forget ! 26 refl $ forget ! 23 refl $ freed (s .arrays) (refusal (s .number)) (refusal-is (s .number) (s .number-fits)) (unread (now text) (s .arrays) (s .at) (s .number) (s .stage) (s .reached) reads)),
             tt,
           ),
         )
@@ -324,11 +327,11 @@ module _ {M : Type 1} (𝓤 : URA M) (H : Heap 𝓤) (A : Atoms 𝓤) (W : Given
               assigns ! (addr ! (from ! (hop ! (look ! 14 refl) (stop !)))) (from ! (stop !)) (init ! 29 refl (tt, tt)) $
               assigns ! (addr ! (from ! (hop ! (look ! 15 refl) (stop !)))) (from ! (stop !)) (init ! 30 refl (tt, tt)) $
               -- stage = take_line(stage, line, _17, _18, _19, _20)
-              move ! (2 ∷ 3 ∷ 4 ∷ 5 ∷ 6 ∷ 7 ∷ 8 ∷ 9 ∷ []) $ calls-take-line 𝓤 H A W mem run κ₁ κ₂ κ₃ κ₄ q₁ q₂ q₃ q₄ ends marks syndrome loss ! framed known-take-line (s .stage) l (s .ends) (s .marks) (s .syndrome) (s .loss) (s .stage-is) line-is (within (now text) (s .ends) (s .marks) (s .syndrome) (s .loss) (s .at) (s .number) (s .stage) (s .reached))
-              (λ ν₁ ν₂ ν₃ ν₄ δ₁ δ₂ δ₃ δ₄. and-then ! (load ! (from ! (stop !)) (look ! 14 refl)) (and-then ! (load ! (from ! (stop !)) (look ! 15 refl)) (and-then ! (load ! (from ! (stop !)) (look ! 24 refl)) (and-then ! (load ! (from ! (stop !)) (look ! 25 refl)) (and-then ! (load ! (from ! (stop !)) (look ! 26 refl)) (and-then ! (load ! (from ! (stop !)) (look ! 27 refl)) (no-more !))))))) (λ r es ms ss xs takes stage-is.
+              move ! (2 ∷ 3 ∷ 4 ∷ 5 ∷ 6 ∷ 7 ∷ 8 ∷ 9 ∷ []) $ calls-take-line 𝓤 H A W mem run κ₁ κ₂ κ₃ κ₄ q₁ q₂ q₃ q₄ ends marks syndrome loss ! framed known-take-line (s .stage) l (s .arrays) (s .stage-is) line-is (within (now text) (s .arrays) (s .at) (s .number) (s .stage) (s .reached))
+              (λ ν₁ ν₂ ν₃ ν₄ δ₁ δ₂ δ₃ δ₄. and-then ! (load ! (from ! (stop !)) (look ! 14 refl)) (and-then ! (load ! (from ! (stop !)) (look ! 15 refl)) (and-then ! (load ! (from ! (stop !)) (look ! 24 refl)) (and-then ! (load ! (from ! (stop !)) (look ! 25 refl)) (and-then ! (load ! (from ! (stop !)) (look ! 26 refl)) (and-then ! (load ! (from ! (stop !)) (look ! 27 refl)) (no-more !))))))) (λ r b takes stage-is.
               move ! (8 ∷ 9 ∷ 0 ∷ 1 ∷ 2 ∷ 3 ∷ 4 ∷ 5 ∷ 6 ∷ 7 ∷ []) $
               land ! (from ! (stop !)) (store ! 17 refl (Enums.lawful Stage.the-type Stage′.the-laws 𝓤 H A W tt .typed r _ stage-is .0)) $ forget ! 18 refl $ forget ! 27 refl $ forget ! 28 refl $ forget ! 29 refl $ forget ! 30 refl $
-              first ! $ stage-matched s l next k reads next-fits k-fits es ms ss xs r takes stage-is)),
+              first ! $ stage-matched s l next k reads next-fits k-fits b r takes stage-is)),
           ((λ e. absurd (miss (1 ∷ []) 0 tt e)), tt),
         )
 
@@ -341,8 +344,8 @@ module _ {M : Type 1} (𝓤 : URA M) (H : Heap 𝓤) (A : Atoms 𝓤) (W : Given
         land ! (from ! (stop !)) (init ! 23 refl (Enums.lawful LineRead.the-type LineRead′.the-laws 𝓤 H A W tt .typed r _ is .0)) $ forget ! 24 refl $ first ! $ line-matched s r reads is)
 
     -- before the loop: the reader is made, and nothing has been read
-    begins : Triple 𝓤 (𝓣 .C #lines-of) (LinesOf 𝓤 H A mem run) → Sized (now ends) (now marks) (now syndrome) (now loss) → ((v : ℕ) → getD (now syndrome) v 0 ≡ 0)
-        → Sq W (Owned (now ends) (now marks) (now syndrome) (now loss) (Locals (room Reading′.mir l₀) (room (Reader′.mir erased) l₆) (room Stage′.mir l₇) (room word l₉) (room word l₁₀) (room LineRead′.mir l₁₃))) (runs (𝓣 .C) (𝓣 .Λ) Env₀ code-mir.t-1 (atRet Env₀ Post))
+    begins : Triple 𝓤 (𝓣 .C #lines-of) (LinesOf 𝓤 H A mem run) → Sized lent → ((v : ℕ) → getD (now syndrome) v 0 ≡ 0)
+        → Sq W (Owned lent (Locals (room Reading′.mir l₀) (room (Reader′.mir erased) l₆) (room Stage′.mir l₇) (room word l₉) (room word l₁₀) (room LineRead′.mir l₁₃))) (runs (𝓣 .C) (𝓣 .Λ) Env₀ code-mir.t-1 (atRet Env₀ Post))
     begins known-lines-of sized zeros =
         -- lines = lines_of(text)
         calls-lines-of 𝓤 H A W mem run κ₀ q₀ text ! framed known-lines-of (and-then ! (load ! (from ! (stop !)) (look ! 11 refl)) (no-more !)) (
@@ -350,15 +353,12 @@ module _ {M : Type 1} (𝓤 : URA M) (H : Heap 𝓤) (A : Atoms 𝓤) (W : Given
         -- stage = Stage::Start
         assigns ! (agg ! (and-then ! (lit ! tt) (no-more !))) (from ! (stop !)) (init ! 17 refl (Enums.lawful Stage.the-type Stage′.the-laws 𝓤 H A W tt .typed stage.Start _ start-is .0)) $
         first ! $ blocks ! $ loops ! 𝓣 (Less (now text)) (less-wf (now text)) Before turn (record {
-          ends = now ends;
-          marks = now marks;
-          syndrome = now syndrome;
-          loss = now loss;
+          arrays = lent;
           at = 0;
           number = lineNumber (now text) 0;
           stage = stage.Start;
           stage-is = start-is;
-          reached = starts (now text) (now ends) (now marks) (now syndrome) (now loss) sized zeros;
+          reached = starts (now text) lent sized zeros;
           at-fits = lit< tt;
           number-fits = first-fits;
         }))
@@ -366,7 +366,7 @@ module _ {M : Type 1} (𝓤 : URA M) (H : Heap 𝓤) (A : Atoms 𝓤) (W : Given
   module _ (𝓣 : Tables 𝓤 H) (known-lines-of : Triple 𝓤 (𝓣 .C #lines-of) (LinesOf 𝓤 H A mem run)) (known-next-line : Triple 𝓤 (𝓣 .C #next-line) (NextLine 𝓤 H A mem run))
       (known-moved-on : Triple 𝓤 (𝓣 .C #moved-on) (MovesOn 𝓤 H A mem run)) (known-take-line : Triple 𝓤 (𝓣 .C #take-line) (TakeLine 𝓤 H A mem run)) where
     abbrev Asked : Type 0
-    Asked = Sized (now ends) (now marks) (now syndrome) (now loss)
+    Asked = Sized lent
 
     abbrev Zeros : Type 0
     Zeros = (v : ℕ) → getD (now syndrome) v 0 ≡ 0
@@ -395,7 +395,7 @@ module _ {M : Type 1} (𝓤 : URA M) (H : Heap 𝓤) (A : Atoms 𝓤) (W : Given
   walks =
       walked 𝓤 H A read-lines.ended kept (read-lines.clauses 𝓤 H A mem run) (WpFn 𝓤 H (𝓣 .C) (𝓣 .Λ) code.function)
       (λ κs. (slice-vals, (ptr-vals, (ptr-vals, (ptr-vals, (ptr-vals, tt))))))
-      (λ κs. (shr-slice-tells (named 0) (κs .0) u8, (mut-tells (named 1) (κs .1 .0) Ends, (mut-tells (named 2) (κs .1 .1 .0) (Bytes 4096), (mut-tells (named 3) (κs .1 .1 .1 .0) (Bytes 1024), (mut-tells (named 4) (κs .1 .1 .1 .1 .0) (Bytes 4096), tt))))))
+      (λ κs. (shr-slice-tells (named 0) (κs .0) u8, (mut-tells (named 1) (κs .1 .0) Ends, (mut-tells (named 2) (κs .1 .1 .0) (Bytes edgeLimit), (mut-tells (named 3) (κs .1 .1 .1 .0) (Bytes vertexLimit), (mut-tells (named 4) (κs .1 .1 .1 .1 .0) (Bytes edgeLimit), tt))))))
       (λ κs qs bounds a g are.
       body 𝓤 H A W mem run (κs .0) (κs .1 .0) (κs .1 .1 .0) (κs .1 .1 .1 .0) (κs .1 .1 .1 .1 .0) (qs .0) (qs .1 .0) (qs .1 .1 .0) (qs .1 .1 .1 .0) (qs .1 .1 .1 .1 .0)
       (a .0) (a .1 .0) (a .1 .1 .0) (a .1 .1 .1 .0) (a .1 .1 .1 .1 .0) 𝓣 known-lines-of known-next-line known-moved-on known-take-line (are .0))
@@ -403,7 +403,7 @@ module _ {M : Type 1} (𝓤 : URA M) (H : Heap 𝓤) (A : Atoms 𝓤) (W : Given
   meets : Meets 𝓤 H A read-lines.signature (WpFn 𝓤 H (𝓣 .C) (𝓣 .Λ) code.function) (read-lines.spec 𝓤 H A mem run)
   meets =
       walk-meets 𝓤 H A read-lines.ended kept W
-      (goes-none-slice 𝓤 H A W 5 (0 ∷ []) tt (plain (λ _. u8)) yes, (goes-ref 𝓤 H A W 5 1 tt endsSlot, (goes-ref 𝓤 H A W 5 2 tt (bytesSlot 4096), (goes-ref 𝓤 H A W 5 3 tt (bytesSlot 1024), (goes-ref 𝓤 H A W 5 4 tt (bytesSlot 4096), tt)))))
+      (goes-none-slice 𝓤 H A W 5 (0 ∷ []) tt (plain (λ _. u8)) yes, (goes-ref 𝓤 H A W 5 1 tt endsSlot, (goes-ref 𝓤 H A W 5 2 tt (bytesSlot edgeLimit), (goes-ref 𝓤 H A W 5 3 tt (bytesSlot vertexLimit), (goes-ref 𝓤 H A W 5 4 tt (bytesSlot edgeLimit), tt)))))
       (read-lines.clauses 𝓤 H A mem run) (WpFn 𝓤 H (𝓣 .C) (𝓣 .Λ) code.function) (WpFn-mono 𝓤 H (W .laws) 𝓣 code.function) walks
 
 pub read-lines-spec : {M : Type 1} → stated.statement M
@@ -412,7 +412,7 @@ read-lines-spec 𝓤 H 𝓜 𝓖 𝓡 =
     entered 𝓤 H (tripleOf 𝓤 H (𝓖 .A) read-lines.signature (read-lines.spec 𝓤 H (𝓖 .A) (𝓜 .mem) (𝓡 .run)))
     (tables 𝓤 H 𝓜 𝓡 code.env .C) (tables 𝓤 H 𝓜 𝓡 code.env .Λ) #read-lines code.function (code.unfolded 𝓤 H 𝓜 𝓡)
     (meets 𝓤 H (𝓖 .A) (givenOf 𝓤 H 𝓜 𝓖) (𝓜 .mem) (𝓡 .run) (tablesOf 𝓤 H 𝓜 (tables 𝓤 H 𝓜 𝓡 code.env))
-    (cited 𝓤 H (LinesOf 𝓤 H (𝓖 .A) (𝓜 .mem) (𝓡 .run)) 𝓜 𝓡 code.env #lines-of lines-of-def.routine code.calls-text·lines·lines-of (lines-of-met.met 𝓤 H 𝓜 𝓖 𝓡))
-    (cited 𝓤 H (NextLine 𝓤 H (𝓖 .A) (𝓜 .mem) (𝓡 .run)) 𝓜 𝓡 code.env #next-line next-line-def.routine code.calls-text·lines·next-line (next-line-met.met 𝓤 H 𝓜 𝓖 𝓡))
-    (cited 𝓤 H (MovesOn 𝓤 H (𝓖 .A) (𝓜 .mem) (𝓡 .run)) 𝓜 𝓡 code.env #moved-on moved-on-def.routine code.calls-text·lines·moved-on (moved-on-met.met 𝓤 H 𝓜 𝓖 𝓡))
+    (cited 𝓤 H (LinesOf 𝓤 H (𝓖 .A) (𝓜 .mem) (𝓡 .run)) 𝓜 𝓡 code.env #lines-of lines-of-def.routine code.calls-text·reader·lines-of (lines-of-met.met 𝓤 H 𝓜 𝓖 𝓡))
+    (cited 𝓤 H (NextLine 𝓤 H (𝓖 .A) (𝓜 .mem) (𝓡 .run)) 𝓜 𝓡 code.env #next-line next-line-def.routine code.calls-text·reader·next-line (next-line-met.met 𝓤 H 𝓜 𝓖 𝓡))
+    (cited 𝓤 H (MovesOn 𝓤 H (𝓖 .A) (𝓜 .mem) (𝓡 .run)) 𝓜 𝓡 code.env #moved-on moved-on-def.routine code.calls-text·reader·moved-on (moved-on-met.met 𝓤 H 𝓜 𝓖 𝓡))
     (cited 𝓤 H (TakeLine 𝓤 H (𝓖 .A) (𝓜 .mem) (𝓡 .run)) 𝓜 𝓡 code.env #take-line take-line-def.routine code.calls-text·stage·take-line (take-line-met.met 𝓤 H 𝓜 𝓖 𝓡)))

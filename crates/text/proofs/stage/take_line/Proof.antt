@@ -3,17 +3,17 @@ use mathlib.Core.Path.{sym, subst, _∙_}
 use borrow.Author.Needs.{needs}
 use borrow.Author.Tests.{not-true, not-false}
 use denote.Ref.{now}
+use Rattle.model.specs.TextOutcomes.{Buffers, buffersOf}
 use Rattle.text.specs.Order.{meant}
 use Rattle.text.specs.Stages.{Within}
 use Rattle.text.proofs.HoldLaws.{storable}
 use Rattle.text.proofs.TakeLaws.{takes-first, takes-none, takes-no-more, takes-on}
 use Rattle.text.proofs.stage.take_line.Statement.{statement}
 use Rattle.text.proofs.stage.take_line.Tie as tie
-use Rattle.text.proofs.stage.take_line.Reads as reads
-use Rattle.text.proofs.stage.take_line.Lts as lts
-use Rattle.text.proofs.order.may_stand.Reads as may-stand-reads
-use Rattle.text.proofs.stage.begin.Reads as begin-reads
-use Rattle.text.proofs.store.store.Reads as store-reads
+
+-- what the arrays hold at the begin
+abbrev lent : tie.Start → Buffers
+lent s = buffersOf (now (s .args .ends)) (now (s .args .marks)) (now (s .args .syndrome)) (now (s .args .loss))
 
 enum-told : tie.Need-enum-told
 enum-told c = search needs
@@ -29,41 +29,45 @@ may-stand-requires c κs = search needs
 
 returns : tie.Need-returns
 returns c =
-    let v = c .before .before .before .stage .given in
-    let a = c .before .before .before .before .before .args in
-    takes-no-more (a .stage) (a .line) (now (a .ends)) (now (a .marks)) (now (a .syndrome)) (now (a .loss))
-    (v .0 .0) (v .0 .1 .0) (v .0 .1 .1 .0) (v .1) (sym (c .before .may-stand .ensures) ∙ not-true _ (c .if1 .taken))
+    let asked = c .before in
+    let found = asked .before .before in
+    let s = found .before .before in
+    let v = found .stage .given in
+    takes-no-more (s .args .stage) (s .args .line) (lent s) (v .0 .0) (v .0 .1 .0) (v .0 .1 .1 .0) (v .1)
+    (sym (asked .may-stand .ensures) ∙ not-true _ (c .if1 .taken))
 
 store-requires : tie.Need-store-requires
 store-requires c κs =
-    let v = c .before .before .before .before .before .before .before .stage .given in
-    let limits = subst Within (v .1) (c .before .before .before .before .before .before .before .before .before .pre) in
-    storable (v .0 .0) (v .0 .1 .0) (meant (v .0 .1 .1 .0)) (meant (c .before .before .before .before .before .before .before .before .before .args .line)) (limits .0) (limits .1)
-    (sym (c .before .before .before .before .before .may-stand .ensures) ∙ not-false _ (c .before .before .before .before .if1 .left))
+    let may = c .before .before .before .before in
+    let found = may .before .before .before in
+    let s = found .before .before in
+    let v = found .stage .given in
+    let limits = subst Within (v .1) (s .pre) in
+    storable (v .0 .0) (v .0 .1 .0) (meant (v .0 .1 .1 .0)) (meant (s .args .line)) (limits .0) (limits .1)
+    (sym (may .before .may-stand .ensures) ∙ not-false _ (may .if1 .left))
 
 enum-told-2 : tie.Need-enum-told-2
 enum-told-2 c = search needs
 
 returns-2 : tie.Need-returns-2
 returns-2 c =
-    let a = c .before .before .before .args in
-    takes-first (a .stage) (a .line) (now (a .ends)) (now (a .marks)) (now (a .syndrome)) (now (a .loss))
-    (c .begin .result) (c .before .enum-told .given .1) (c .begin .ensures)
+    let s = c .before .before .before in
+    takes-first (s .args .stage) (s .args .line) (lent s) (c .begin .result) (c .before .enum-told .given .1) (c .begin .ensures)
 
 returns-3 : tie.Need-returns-3
 returns-3 c =
-    let v = c .before .before .before .before .before .before .before .before .stage .given in
-    let a = c .before .before .before .before .before .before .before .before .before .before .args in
-    takes-on (a .stage) (a .line) (now (a .ends)) (now (a .marks)) (now (a .syndrome)) (now (a .loss))
-    (v .0 .0) (v .0 .1 .0) (v .0 .1 .1 .0) (v .1) (c .store .result) _ _ _ _
-    (sym (c .before .before .before .before .before .before .may-stand .ensures) ∙ not-false _ (c .before .before .before .before .before .if1 .left))
+    let may = c .before .before .before .before .before in
+    let found = may .before .before .before in
+    let s = found .before .before in
+    let v = found .stage .given in
+    takes-on (s .args .stage) (s .args .line) (lent s) (v .0 .0) (v .0 .1 .0) (v .0 .1 .1 .0) (v .1) (c .store .result) _
+    (sym (may .before .may-stand .ensures) ∙ not-false _ (may .if1 .left))
     (c .store .ensures)
 
 returns-4 : tie.Need-returns-4
 returns-4 c =
-    let a = c .before .before .args in
-    takes-none (a .stage) (a .line) (now (a .ends)) (now (a .marks)) (now (a .syndrome)) (now (a .loss))
-    (c .enum-told2 .given .1)
+    let s = c .before .before in
+    takes-none (s .args .stage) (s .args .line) (lent s) (c .enum-told2 .given .1)
 
 pub take-line-spec : {M : Type 1} → statement M
 take-line-spec =

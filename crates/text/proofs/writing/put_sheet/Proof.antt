@@ -1,32 +1,68 @@
 -- `text::writing::put_sheet` meets its contract: the four kinds of line, one after the other. Assumes nothing.
 use native.Mathlib.Omega.{arith}
-use denote.Ref.{now}
-use Rattle.model.specs.Board.{boardOf, sheetOf}
-use Rattle.text.proofs.PutLaws.{then, long, length-sheet}
 use borrow.Author.Needs.{needs}
+use denote.Ref.{now}
+use Rattle.model.specs.Board.{boardOf, Sheet, sheetOf}
+use Rattle.text.proofs.PutLaws.{then, long, length-sheet}
 use Rattle.text.proofs.writing.put_sheet.Statement.{statement}
 use Rattle.text.proofs.writing.put_sheet.Tie as tie
 
+-- the sheet that is lent
+abbrev lent : tie.Start → Sheet
+lent s =
+    sheetOf (boardOf (s .args .vertices) (now (s .args .ends)) (now (s .args .marks))) (now (s .args .syndrome)) (now (s .args .loss))
+
+-- The states, from each back to the one before: the vertices' line is put, then the edges', then the syndrome's.
+abbrev start : tie.After-put-line → tie.Start
+start c = c .before .before .before .before .before .before .before
+
+abbrev vertices-put : tie.After-put-edges → tie.After-put-line
+vertices-put c = c .before .before .before .before
+
+abbrev edges-put : tie.After-put-listed → tie.After-put-edges
+edges-put c = c .before .before .before .before
+
 put-line-requires : tie.Need-put-line-requires
-put-line-requires c κs = omega (arith, length-sheet (sheetOf (boardOf (c .before .before .before .before .before .before .args .vertices) (now (c .before .before .before .before .before .before .args .ends)) (now (c .before .before .before .before .before .before .args .marks))) (now (c .before .before .before .before .before .before .args .syndrome)) (now (c .before .before .before .before .before .before .args .loss))), c .before .before .before .before .before .before .pre .1)
+put-line-requires c κs =
+    let s = c .before .before .before .before .before .before in
+    omega (arith, length-sheet (lent s), s .pre .1)
 
 put-edges-requires : tie.Need-put-edges-requires
-put-edges-requires c κs = (
-  c .before .before .before .before .before .before .before .before .before .before .pre .0,
-  omega (arith, length-sheet (sheetOf (boardOf (c .before .before .before .before .before .before .before .before .before .before .args .vertices) (now (c .before .before .before .before .before .before .before .before .before .before .args .ends)) (now (c .before .before .before .before .before .before .before .before .before .before .args .marks))) (now (c .before .before .before .before .before .before .before .before .before .before .args .syndrome)) (now (c .before .before .before .before .before .before .before .before .before .before .args .loss))), c .before .before .before .before .before .before .before .before .before .before .pre .1, c .before .before .before .put-line .ensures .position, long (c .before .before .before .put-line .ensures)),
-)
+put-edges-requires c κs =
+    let v = c .before .before .before in
+    let s = start v in
+    let done = v .put-line .ensures in
+    (s .pre .0, omega (arith, length-sheet (lent s), s .pre .1, done .position, long done))
 
 put-listed-requires : tie.Need-put-listed-requires
-put-listed-requires c κs = omega (arith, length-sheet (sheetOf (boardOf (c .before .before .before .before .before .before .before .before .before .before .before .before .before .before .args .vertices) (now (c .before .before .before .before .before .before .before .before .before .before .before .before .before .before .args .ends)) (now (c .before .before .before .before .before .before .before .before .before .before .before .before .before .before .args .marks))) (now (c .before .before .before .before .before .before .before .before .before .before .before .before .before .before .args .syndrome)) (now (c .before .before .before .before .before .before .before .before .before .before .before .before .before .before .args .loss))), c .before .before .before .before .before .before .before .before .before .before .before .before .before .before .pre .1, c .before .before .before .before .before .before .before .put-line .ensures .position, c .before .before .before .put-edges .ensures .position, long (c .before .before .before .before .before .before .before .put-line .ensures), long (c .before .before .before .put-edges .ensures))
+put-listed-requires c κs =
+    let e = c .before .before .before in
+    let v = vertices-put e in
+    let s = start v in
+    let first = v .put-line .ensures in
+    let done = e .put-edges .ensures in
+    omega (arith, length-sheet (lent s), s .pre .1, first .position, done .position, long first, long done)
 
 put-listed-requires-2 : tie.Need-put-listed-requires-2
-put-listed-requires-2 c κs = omega (arith, length-sheet (sheetOf (boardOf (c .before .before .before .before .before .before .before .before .before .before .before .before .before .before .before .before .before .before .args .vertices) (now (c .before .before .before .before .before .before .before .before .before .before .before .before .before .before .before .before .before .before .args .ends)) (now (c .before .before .before .before .before .before .before .before .before .before .before .before .before .before .before .before .before .before .args .marks))) (now (c .before .before .before .before .before .before .before .before .before .before .before .before .before .before .before .before .before .before .args .syndrome)) (now (c .before .before .before .before .before .before .before .before .before .before .before .before .before .before .before .before .before .before .args .loss))), c .before .before .before .before .before .before .before .before .before .before .before .before .before .before .before .before .before .before .pre .1, c .before .before .before .before .before .before .before .before .before .before .before .put-line .ensures .position, c .before .before .before .before .before .before .before .put-edges .ensures .position, c .before .before .before .put-listed .ensures .position, long (c .before .before .before .before .before .before .before .before .before .before .before .put-line .ensures), long (c .before .before .before .before .before .before .before .put-edges .ensures), long (c .before .before .before .put-listed .ensures))
+put-listed-requires-2 c κs =
+    let l = c .before .before .before in
+    let e = edges-put l in
+    let v = vertices-put e in
+    let s = start v in
+    let first = v .put-line .ensures in
+    let second = e .put-edges .ensures in
+    let done = l .put-listed .ensures in
+    omega (arith, length-sheet (lent s), s .pre .1, first .position, second .position, done .position, long first, long second, long done)
 
 same-length : tie.Need-same-length
 same-length c = search needs
 
 returns : tie.Need-returns
-returns c = then (then (then (c .before .before .before .before .before .before .before .before .before .before .before .before .before .before .put-line .ensures) (c .before .before .before .before .before .before .before .before .before .before .put-edges .ensures)) (c .before .before .before .before .before .before .put-listed .ensures)) (c .before .before .put-listed2 .ensures)
+returns c =
+    let x = c .before .before in
+    let l = x .before .before .before .before in
+    let e = edges-put l in
+    then (then (then (vertices-put e .put-line .ensures) (e .put-edges .ensures)) (l .put-listed .ensures)) (x .put-listed2 .ensures)
 
 pub put-sheet-spec : {M : Type 1} → statement M
 put-sheet-spec =

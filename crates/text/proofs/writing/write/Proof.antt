@@ -3,15 +3,33 @@ use mathlib.Core.Path.{_≡_, sym, ap, _∙_}
 use mathlib.Core.Bool.{true}
 use mathlib.Core.Option.{none}
 use native.Mathlib.Nat.{zero-add}
-use denote.Ref.{now}
-use Rattle.model.specs.Board.{boardOf, sheetOf}
-use Rattle.board.specs.Outcome.{testOf}
-use Rattle.board.specs.Rules.{sheetRefusal}
-use Rattle.text.proofs.WriteOutcome.{sheet-refused, valid, too-long, no-room, all-written, in-front}
-use Rattle.text.proofs.PrintLaws.{text-short}
 use borrow.Author.Needs.{needs}
+use denote.Ref.{now}
+use Rattle.model.specs.Board.{boardOf, Sheet, sheetOf, ValidSheet}
+use Rattle.model.specs.Refusals.{refusalOf, sheetRules}
+use Rattle.board.specs.Checks.{testOf}
+use Rattle.text.proofs.PrintLaws.{text-short}
+use Rattle.text.proofs.WriteOutcome.{sheet-refused, valid, too-long, no-room, all-written, in-front}
 use Rattle.text.proofs.writing.write.Statement.{statement}
 use Rattle.text.proofs.writing.write.Tie as tie
+
+-- the sheet that is lent
+abbrev lent : tie.Start → Sheet
+lent s =
+    sheetOf (boardOf (s .args .vertices) (now (s .args .ends)) (now (s .args .marks))) (now (s .args .syndrome)) (now (s .args .loss))
+
+-- The states, from each back to the one before: the sheet's tests passed, then the lines put.
+abbrev start : tie.After-enum-told → tie.Start
+start c = c .before .before .before .before .before .before .before .before
+
+abbrev passed : tie.After-put-sheet → tie.After-enum-told
+passed c = c .before .before
+
+passes : (c : tie.After-enum-told) → refusalOf (sheetRules (lent (start c)) true) ≡ none
+passes c = sym (c .before .before .check-sheet .ensures) ∙ ap testOf (c .enum-told .given .1)
+
+is-valid : (c : tie.After-enum-told) → ValidSheet (lent (start c))
+is-valid c = valid (lent (start c)) (now (start c .args .text)) (passes c)
 
 check-sheet-requires : tie.Need-check-sheet-requires
 check-sheet-requires c κs = search needs
@@ -20,33 +38,32 @@ enum-known-refusal : tie.Need-enum-known-refusal
 enum-known-refusal c = search needs
 
 returns : tie.Need-returns
-returns c =
-    sheet-refused _ _ _ (sym (c .before .before .before .check-sheet .ensures) ∙ ap testOf (c .before .refusal .given .1))
+returns c = let found = c .before in sheet-refused _ _ _ (sym (found .before .before .check-sheet .ensures) ∙ ap testOf (found .refusal .given .1))
 
 enum-told : tie.Need-enum-told
 enum-told c = search needs
-
--- where the tests 1 to 8 have passed
-passes : (c : tie.After-enum-told) → sheetRefusal (sheetOf (boardOf (c .before .before .before .before .before .before .before .before .args .vertices) (now (c .before .before .before .before .before .before .before .before .args .ends)) (now (c .before .before .before .before .before .before .before .before .args .marks))) (now (c .before .before .before .before .before .before .before .before .args .syndrome)) (now (c .before .before .before .before .before .before .before .before .args .loss))) true ≡ none
-passes c = sym (c .before .before .check-sheet .ensures) ∙ ap testOf (c .enum-told .given .1)
 
 slice-aggregate-put-sheet : tie.Need-slice-aggregate-put-sheet
 slice-aggregate-put-sheet c = search needs
 
 put-sheet-requires : tie.Need-put-sheet-requires
 put-sheet-requires c κs =
-    let w = valid (sheetOf (boardOf (c .before .before .before .before .before .before .before .before .before .args .vertices) (now (c .before .before .before .before .before .before .before .before .before .args .ends)) (now (c .before .before .before .before .before .before .before .before .before .args .marks))) (now (c .before .before .before .before .before .before .before .before .before .args .syndrome)) (now (c .before .before .before .before .before .before .before .before .before .args .loss))) (now (c .before .before .before .before .before .before .before .before .before .args .text)) (passes (c .before)) in (
-      w .board .two-ends,
-      text-short (sheetOf (boardOf (c .before .before .before .before .before .before .before .before .before .args .vertices) (now (c .before .before .before .before .before .before .before .before .before .args .ends)) (now (c .before .before .before .before .before .before .before .before .before .args .marks))) (now (c .before .before .before .before .before .before .before .before .before .args .syndrome)) (now (c .before .before .before .before .before .before .before .before .before .args .loss))) w,
-    )
+    let v = is-valid (c .before) in
+    ((v .board .inside .two-ends, v .board .inside .edge-limit), text-short (lent (start (c .before))) v)
 
 returns-2 : tie.Need-returns-2
 returns-2 c =
-    too-long (sheetOf (boardOf (c .before .before .before .before .before .before .before .before .before .before .before .before .args .vertices) (now (c .before .before .before .before .before .before .before .before .before .before .before .before .args .ends)) (now (c .before .before .before .before .before .before .before .before .before .before .before .before .args .marks))) (now (c .before .before .before .before .before .before .before .before .before .before .before .before .args .syndrome)) (now (c .before .before .before .before .before .before .before .before .before .before .before .before .args .loss))) (now (c .before .before .before .before .before .before .before .before .before .before .before .before .args .text)) (passes (c .before .before .before .before)) _ (c .before .before .put-sheet .ensures .position ∙ zero-add _) (c .if1 .taken)
+    let put = c .before .before in
+    let p = passed put in
+    let s = start p in
+    too-long (lent s) (now (s .args .text)) (passes p) _ (put .put-sheet .ensures .position ∙ zero-add _) (c .if1 .taken)
 
 returns-3 : tie.Need-returns-3
 returns-3 c =
-    no-room (sheetOf (boardOf (c .before .before .before .before .before .before .before .before .before .before .before .before .before .args .vertices) (now (c .before .before .before .before .before .before .before .before .before .before .before .before .before .args .ends)) (now (c .before .before .before .before .before .before .before .before .before .before .before .before .before .args .marks))) (now (c .before .before .before .before .before .before .before .before .before .before .before .before .before .args .syndrome)) (now (c .before .before .before .before .before .before .before .before .before .before .before .before .before .args .loss))) (now (c .before .before .before .before .before .before .before .before .before .before .before .before .before .args .text)) (passes (c .before .before .before .before .before)) _ (c .before .before .before .put-sheet .ensures .position ∙ zero-add _) (c .before .if1 .left) (c .if2 .taken)
+    let put = c .before .before .before in
+    let p = passed put in
+    let s = start p in
+    no-room (lent s) (now (s .args .text)) (passes p) _ (put .put-sheet .ensures .position ∙ zero-add _) (c .before .if1 .left) (c .if2 .taken)
 
 slice-aggregate-copy-bytes : tie.Need-slice-aggregate-copy-bytes
 slice-aggregate-copy-bytes c = search needs
@@ -59,11 +76,15 @@ same-length c = search needs
 
 returns-4 : tie.Need-returns-4
 returns-4 c =
-    let done = c .before .before .before .before .before .before .before .before .put-sheet .ensures in
-    let ok = passes (c .before .before .before .before .before .before .before .before .before .before) in
-    all-written (sheetOf (boardOf (c .before .before .before .before .before .before .before .before .before .before .before .before .before .before .before .before .before .before .args .vertices) (now (c .before .before .before .before .before .before .before .before .before .before .before .before .before .before .before .before .before .before .args .ends)) (now (c .before .before .before .before .before .before .before .before .before .before .before .before .before .before .before .before .before .before .args .marks))) (now (c .before .before .before .before .before .before .before .before .before .before .before .before .before .before .before .before .before .before .args .syndrome)) (now (c .before .before .before .before .before .before .before .before .before .before .before .before .before .before .before .before .before .before .args .loss))) (now (c .before .before .before .before .before .before .before .before .before .before .before .before .before .before .before .before .before .before .args .text)) ok _ (done .position ∙ zero-add _) (c .before .before .before .before .before .before .if1 .left) (c .before .before .before .before .before .if2 .left) _ _
-    (in-front _ _ _ _ done (text-short _ (valid (sheetOf (boardOf (c .before .before .before .before .before .before .before .before .before .before .before .before .before .before .before .before .before .before .args .vertices) (now (c .before .before .before .before .before .before .before .before .before .before .before .before .before .before .before .before .before .before .args .ends)) (now (c .before .before .before .before .before .before .before .before .before .before .before .before .before .before .before .before .before .before .args .marks))) (now (c .before .before .before .before .before .before .before .before .before .before .before .before .before .before .before .before .before .before .args .syndrome)) (now (c .before .before .before .before .before .before .before .before .before .before .before .before .before .before .before .before .before .before .args .loss))) (now (c .before .before .before .before .before .before .before .before .before .before .before .before .before .before .before .before .before .before .args .text)) ok)))
-    (c .before .before .copy-bytes .ensures)
+    let copied = c .before .before in
+    let fits = copied .before .before .before in
+    let put = fits .before .before .before in
+    let p = passed put in
+    let s = start p in
+    let done = put .put-sheet .ensures in
+    all-written (lent s) (now (s .args .text)) (passes p) _ (done .position ∙ zero-add _) (fits .before .if1 .left) (fits .if2 .left) _ _
+    (in-front _ _ _ _ done (text-short _ (is-valid p)))
+    (copied .copy-bytes .ensures)
 
 pub write-spec : {M : Type 1} → statement M
 write-spec =

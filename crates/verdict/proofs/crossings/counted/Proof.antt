@@ -1,6 +1,6 @@
 -- An edge counts where it crosses and is in exactly one of the two sets. Assumes nothing.
 use borrow.Author.Needs.{needs}
-use Rattle.verdict.proofs.Crossed.{crossing, staying}
+use Rattle.verdict.proofs.CrossingCounts.{crossing, staying}
 use Rattle.verdict.proofs.crossings.counted.Statement.{statement}
 use Rattle.verdict.proofs.crossings.counted.Tie as tie
 
@@ -11,10 +11,14 @@ add-result-2 : tie.Need-add-result-2
 add-result-2 c = search needs
 
 returns : tie.Need-returns
-returns c = crossing _ _ _ (c .before .args .crosses) (c .before .pre .0) (c .before .pre .1) (c .before .pre .2) (c .if1 .taken)
+returns c =
+    let start = c .before in
+    crossing _ _ _ (start .args .crosses) (start .pre .0) (start .pre .1) (start .pre .2) (c .if1 .taken)
 
 returns-2 : tie.Need-returns-2
-returns-2 c = staying _ (c .before .args .handed) (c .before .args .correction) (c .before .args .crosses) (c .before .pre .0) (c .if1 .left)
+returns-2 c =
+    let a = c .before .args in
+    staying _ (a .handed) (a .correction) (a .crosses) (c .before .pre .0) (c .if1 .left)
 
 pub counted-spec : {M : Type 1} → statement M
 counted-spec = tie.close (tie.spec add-result add-result-2 returns returns-2)

@@ -1,12 +1,12 @@
--- The bytes are flipped by the edges passed. Assumes nothing.
+-- The bytes flipped are those of the edges passed. Assumes nothing.
 use Prim.Native.Nat.{_≤_, _-_}
 use mathlib.Core.Path.{_≡_, subst}
 use native.Mathlib.Omega.{arith}
 use lib.ListN.{length}
 use borrow.Author.Needs.{needs}
 use Rattle.model.specs.Sums.{ones}
-use Rattle.verdict.specs.Parity.{Flipped, metBy}
-use Rattle.verdict.proofs.Flips.{counted-none, counted-more}
+use Rattle.verdict.specs.VertexParities.{Flipped, metBy}
+use Rattle.verdict.proofs.ByteFlips.{counted-none, counted-more}
 use Rattle.verdict.proofs.difference.count_edges.Statement.{statement}
 use Rattle.verdict.proofs.difference.count_edges.Tie as tie
 
@@ -17,16 +17,18 @@ abbrev μ-loop : tie.MeasureT-loop
 μ-loop vertices ends handed parity₀ e₀ parity e = length handed - e
 
 loop-holds : tie.Need-loop-holds Inv-loop μ-loop
-loop-holds c = (search needs, counted-none (c .before .before .args .ends .now) (ones (c .before .before .args .handed .now)) (c .before .before .pre .1))
+loop-holds c =
+    let start = c .before .before in
+    (search needs, counted-none (start .args .ends .now) (ones (start .args .handed .now)) (start .pre .1))
 
 cast-t9 : tie.Need-cast-t9 Inv-loop μ-loop
 cast-t9 c = search needs
 
 count-edge-requires : tie.Need-count-edge-requires Inv-loop μ-loop
-count-edge-requires c κs = (
-  c .before .before .before .before .before .pre .0 .edge (c .before .before .loop .e) (search needs),
-  c .before .before .loop .inv .1 .bits,
-)
+count-edge-requires c κs =
+    let turn = c .before .before in
+    let start = turn .before .before .before in
+    (start .pre .0, search needs, turn .loop .inv .1 .bits)
 
 add-e : tie.Need-add-e Inv-loop μ-loop
 add-e c = search needs
@@ -35,15 +37,17 @@ loop-less : tie.Need-loop-less Inv-loop μ-loop
 loop-less c = search needs
 
 loop-again : tie.Need-loop-again Inv-loop μ-loop
-loop-again c = (search needs, counted-more (c .before .before .before .before .before .before .args .ends .now) (ones (c .before .before .before .before .before .before .args .handed .now)) _ (c .before .before .before .loop .inv .1) (c .count-edge .ensures))
+loop-again c =
+    let turn = c .before .before .before in
+    let a = turn .before .before .before .args in
+    (search needs, counted-more (a .ends .now) (ones (a .handed .now)) _ (turn .loop .inv .1) (c .count-edge .ensures))
 
 returns : tie.Need-returns Inv-loop μ-loop
 returns c =
+    let last = c .before .loop in
     let a = c .before .before .before .before .args in
-    let all : c .before .loop .e ≡ length (a .handed .now) = omega arith in
-    subst (λ k. Flipped (metBy (a .ends .now) (ones (a .handed .now)) k) (a .vertices) (a .parity .now) (c .before .loop .parity))
-    all
-    (c .before .loop .inv .1)
+    let all : last .e ≡ length (a .handed .now) = omega arith in
+    subst (λ k. Flipped (metBy (a .ends .now) (ones (a .handed .now)) k) (a .vertices) (a .parity .now) (last .parity)) all (last .inv .1)
 
 pub count-edges-spec : {M : Type 1} → statement M
 count-edges-spec =

@@ -2,41 +2,79 @@
 use borrow.Author.Needs.{needs}
 use mathlib.Core.Path.{_≡_, sym, ap, _∙_}
 use native.Mathlib.Omega.{arith}
+use lib.ListN.{length-take}
 use lib.Seq.{length-take-le}
-use Rattle.model.specs.Board.{boardOf}
-use Rattle.board.specs.Outcome.{foundOf}
-use Rattle.verdict.proofs.Judged.{edges-of, flipped-differs, judged-off, judged-same, judged-wound}
+use Rattle.model.specs.Board.{Board, boardOf}
+use Rattle.model.specs.Sums.{ones}
+use Rattle.model.specs.Verdict.{differs}
+use Rattle.board.specs.Checks.{vertexFound}
+use Rattle.verdict.proofs.LoadedBytes.{loaded-bits}
+use Rattle.verdict.proofs.Judged.{handed-inside, flipped-differs, judged-off, judged-same, judged-wound}
 use Rattle.verdict.proofs.judge.judge.Statement.{statement}
 use Rattle.verdict.proofs.judge.judge.Tie as tie
 
-load-requires : tie.Need-load-requires
-load-requires c κs = (c .before .before .before .before .before .before .pre .syndrome-bytes, c .before .before .before .before .before .before .pre .board .vertex-limit, search needs)
+-- from where the first lit byte is found back to where the syndrome was copied, and to where the call began
+abbrev loaded : tie.After-vertex-above → tie.After-copy-bytes
+loaded c = c .before .before .before .before .before
+
+abbrev begun : tie.After-copy-bytes → tie.Start
+begun c = c .before .before .before .before .before .before .before
+
+-- the board that is lent
+abbrev lent : tie.Start → Board
+lent start = boardOf (start .args .vertices) (start .args .ends .now) (start .args .marks .now)
+
+-- what the search for a lit byte finds is where the syndromes first differ
+found : (c : tie.After-vertex-above) →
+    let start = begun (loaded c) in
+    differs (lent start) (ones (start .args .syndrome .now)) (ones (start .args .handed .now)) ≡ vertexFound (c .vertex-above .result)
+found c =
+    let start = begun (loaded c) in
+    let a = start .args in
+    flipped-differs (lent start) (a .syndrome .now) (a .handed .now) (a .correction .now) (start .pre) _ _ _
+    (loaded c .copy-bytes .ensures)
+    (c .before .before .count-edges .ensures)
+    (c .vertex-above .ensures)
+
+slice-aggregate-copy-bytes : tie.Need-slice-aggregate-copy-bytes
+slice-aggregate-copy-bytes c = search needs
+
+copy-bytes-requires : tie.Need-copy-bytes-requires
+copy-bytes-requires c κs = search needs
 
 count-edges-requires : tie.Need-count-edges-requires
 count-edges-requires c κs =
-    (edges-of _ _ (c .before .before .before .before .before .before .before .before .pre .board) (c .before .before .before .before .before .before .before .before .pre .handed-bytes), c .before .load .ensures .0)
+    let copied = c .before .before in
+    let start = begun copied in
+    let a = start .args in
+    let j = start .pre in (
+      handed-inside (lent start) (a .syndrome .now) (a .handed .now) (a .correction .now) j,
+      loaded-bits (a .vertices) (a .syndrome .now) _ _ (j .syndrome-bytes) (copied .copy-bytes .ensures)
+          (j .inside .vertex-limit)
+          (search needs),
+    )
 
 array-share-prefix-parity : tie.Need-array-share-prefix-parity
 array-share-prefix-parity c = search needs
 
-slice-aggregate-first-above : tie.Need-slice-aggregate-first-above
-slice-aggregate-first-above c =
-    sym (length-take-le _ _ (omega (arith, c .before .count-edges .ensures .bits .long, c .before .before .before .before .before .before .before .before .before .before .pre .board .vertex-limit)))
+slice-aggregate-vertex-above : tie.Need-slice-aggregate-vertex-above
+slice-aggregate-vertex-above c =
+    let bits = c .before .count-edges .ensures .bits in
+    sym (length-take-le _ _ (omega (arith, bits .long, bits .limit)))
 
-first-above-requires : tie.Need-first-above-requires
-first-above-requires c κs =
-    rw (length-take-le (c .before .before .before .before .before .before .before .before .before .before .args .vertices) (c .before .count-edges .last .1 .1 .1 .0) (omega (arith, c .before .count-edges .ensures .bits .long, c .before .before .before .before .before .before .before .before .before .before .pre .board .vertex-limit))) (omega (arith, c .before .before .before .before .before .before .before .before .before .before .pre .board .vertex-limit))
+vertex-above-requires : tie.Need-vertex-above-requires
+vertex-above-requires c κs =
+    let bits = c .before .count-edges .ensures .bits in
+    simp length-take (omega (arith, bits .limit))
 
 enum-known-v : tie.Need-enum-known-v
 enum-known-v c = search needs
 
 returns : tie.Need-returns
 returns c =
-    let a = c .before .before .before .before .before .before .before .before .before .before .before .before .before .before .args in
-    let B = boardOf (a .vertices) (a .ends .now) (a .marks .now) in
-    sym
-    (judged-off B _ _ _
-    (flipped-differs B (a .syndrome .now) (a .handed .now) (a .correction .now) _ _ (c .before .before .before .before .before .before .before .before .before .before .before .before .before .before .pre) (c .before .before .before .before .before .before .before .load .ensures .1) (c .before .before .before .before .before .count-edges .ensures) (ap foundOf (sym (c .before .v .given .1)) ∙ c .before .before .before .first-above .ensures)))
+    let read = c .before in
+    let looked = read .before .before in
+    sym (judged-off (lent (begun (loaded looked))) _ _ _ (found looked ∙ ap vertexFound (read .v .given .1)))
 
 enum-told : tie.Need-enum-told
 enum-told c = search needs
@@ -46,33 +84,36 @@ crossings-requires c κs = search needs
 
 returns-2 : tie.Need-returns-2
 returns-2 c =
-    let a = c .before .before .before .before .before .before .before .before .before .before .before .before .before .before .before .args in
-    let B = boardOf (a .vertices) (a .ends .now) (a .marks .now) in
+    let crossed = c .before in
+    let told = crossed .before in
+    let looked = told .before .before in
     sym
-    (judged-same B _ _ _
-    (flipped-differs B (a .syndrome .now) (a .handed .now) (a .correction .now) _ _ (c .before .before .before .before .before .before .before .before .before .before .before .before .before .before .before .pre) (c .before .before .before .before .before .before .before .before .load .ensures .1) (c .before .before .before .before .before .before .count-edges .ensures) (ap foundOf (sym (c .before .before .enum-told .given .1)) ∙ c .before .before .before .before .first-above .ensures))
-    (c .before .crossings .ensures)
+    (judged-same (lent (begun (loaded looked))) _ _ _
+    (found looked ∙ ap vertexFound (told .enum-told .given .1))
+    (crossed .crossings .ensures)
     (c .if1 .taken))
 
 returns-3 : tie.Need-returns-3
 returns-3 c =
-    let a = c .before .before .before .before .before .before .before .before .before .before .before .before .before .before .before .args in
-    let B = boardOf (a .vertices) (a .ends .now) (a .marks .now) in
+    let crossed = c .before in
+    let told = crossed .before in
+    let looked = told .before .before in
     sym
-    (judged-wound B _ _ _
-    (flipped-differs B (a .syndrome .now) (a .handed .now) (a .correction .now) _ _ (c .before .before .before .before .before .before .before .before .before .before .before .before .before .before .before .pre) (c .before .before .before .before .before .before .before .before .load .ensures .1) (c .before .before .before .before .before .before .count-edges .ensures) (ap foundOf (sym (c .before .before .enum-told .given .1)) ∙ c .before .before .before .before .first-above .ensures))
-    (c .before .crossings .ensures)
+    (judged-wound (lent (begun (loaded looked))) _ _ _
+    (found looked ∙ ap vertexFound (told .enum-told .given .1))
+    (crossed .crossings .ensures)
     (c .if1 .left))
 
 pub judge-spec : {M : Type 1} → statement M
 judge-spec =
     tie.close
     (tie.spec
-    load-requires
+    slice-aggregate-copy-bytes
+    copy-bytes-requires
     count-edges-requires
     array-share-prefix-parity
-    slice-aggregate-first-above
-    first-above-requires
+    slice-aggregate-vertex-above
+    vertex-above-requires
     enum-known-v
     returns
     enum-told

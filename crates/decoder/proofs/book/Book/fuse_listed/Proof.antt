@@ -28,13 +28,13 @@ first-end-requires : tie.Need-first-end-requires Inv-loop μ-loop
 first-end-requires c κs =
     let at = c .before .before in
     let pre = at .before .before .pre in
-    omega (arith, pre .lent .two, pre .listed (at .loop .i) (c .before .loop-test .taken))
+    omega (arith, pre .lent .two-ends, pre .listed (at .loop .i) (c .before .loop-test .taken))
 
 second-end-requires : tie.Need-second-end-requires Inv-loop μ-loop
 second-end-requires c κs =
     let at = c .before .before .before in
     let pre = at .before .before .pre in
-    omega (arith, pre .lent .two, pre .listed (at .loop .i) (c .before .before .loop-test .taken))
+    omega (arith, pre .lent .two-ends, pre .listed (at .loop .i) (c .before .before .loop-test .taken))
 
 fuse-requires : tie.Need-fuse-requires Inv-loop μ-loop
 fuse-requires c κs =

@@ -1,6 +1,6 @@
 -- `gathered` meets its contract: each turn joins the ends of one full edge. Assumes nothing.
 use Prim.Native.Nat.{_≤_, _-_}
-use mathlib.Core.Path.{_≡_, subst}
+use mathlib.Core.Path.{_≡_, sym, _∙_, subst}
 use mathlib.Core.Logic.{⊎-elim}
 use native.Mathlib.Numerals.{add-one}
 use lib.ListN.{length}
@@ -22,8 +22,11 @@ fresh-requires c κs = search needs
 loop-holds : tie.Need-loop-holds Inv-loop μ-loop
 loop-holds c = (search needs, gather-none _ _ _ _ (c .before .before .fresh .ensures .alone))
 
-shared-slice-read-if1 : tie.Need-shared-slice-read-if1 Inv-loop μ-loop
-shared-slice-read-if1 c = search needs
+shared-slice-read-byte : tie.Need-shared-slice-read-byte Inv-loop μ-loop
+shared-slice-read-byte c = search needs
+
+is-full-requires : tie.Need-is-full-requires Inv-loop μ-loop
+is-full-requires c κs = search needs
 
 cast-number : tie.Need-cast-number Inv-loop μ-loop
 cast-number c = search needs
@@ -36,14 +39,15 @@ second-end-requires c κs = search needs
 
 join-requires : tie.Need-join-requires Inv-loop μ-loop
 join-requires c κs =
-    let test = c .before .before .before .before .before .before in
+    let second = c .before .before in
+    let test = second .before .before .before .before .before in
     let at = test .before in
-    let lent = at .before .before .before .before .before .before .pre in
+    let start = at .before .before .before .before .before .before in
     record {
-      count = at .before .before .before .before .before .before .args .vertices;
+      count = start .args .vertices;
       trees = at .loop .inv .1 .trees;
-      first = omega (arith, c .before .before .before .first-end .ensures, lent .first (at .loop .e) (test .loop-test .taken));
-      second = omega (arith, c .before .before .second-end .ensures, lent .second (at .loop .e) (test .loop-test .taken));
+      first = omega (arith, second .before .first-end .ensures, start .pre .first-in-range (at .loop .e) (test .loop-test .taken));
+      second = omega (arith, second .second-end .ensures, start .pre .second-in-range (at .loop .e) (test .loop-test .taken));
     }
 
 add-e : tie.Need-add-e Inv-loop μ-loop
@@ -54,16 +58,18 @@ loop-less c = search needs
 
 loop-again : tie.Need-loop-again Inv-loop μ-loop
 loop-again c =
-    let at = c .before .before .before in
+    let tested = c .before in
+    let test = tested .before .before in
+    let at = test .before in
     let e = at .loop .e in
     let lent = at .before .before .before .before .before .before .pre in
-    let h = c .before .before .loop-test .taken in (
+    let h = test .loop-test .taken in (
       search needs,
       rw add-one
           (⊎-elim
           (λ w. rw (w .6, w .7)
-          (gather-full _ _ _ _ e (at .loop .inv .1) (w .0 .taken) _ _ (w .1 .ensures) (w .2 .ensures) (omega (arith, w .1 .ensures, lent .first e h)) (omega (arith, w .2 .ensures, lent .second e h)) (w .5 .ensures)))
-          (λ w. rw (w .1, w .2) (gather-other _ _ _ _ e (at .loop .inv .1) (w .0 .left)))
+          (gather-full _ _ _ _ e (at .loop .inv .1) (sym (tested .is-full .ensures) ∙ w .0 .taken) _ _ (w .1 .ensures) (w .2 .ensures) (omega (arith, w .1 .ensures, lent .first-in-range e h)) (omega (arith, w .2 .ensures, lent .second-in-range e h)) (w .5 .ensures)))
+          (λ w. rw (w .1, w .2) (gather-other _ _ _ _ e (at .loop .inv .1) (sym (tested .is-full .ensures) ∙ w .0 .left)))
           (c .if1 .came)),
     )
 
@@ -82,7 +88,8 @@ gathered-spec =
     μ-loop
     fresh-requires
     loop-holds
-    shared-slice-read-if1
+    shared-slice-read-byte
+    is-full-requires
     cast-number
     first-end-requires
     second-end-requires

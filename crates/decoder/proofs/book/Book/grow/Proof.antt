@@ -1,6 +1,7 @@
 -- `grow` meets its contract: document 01's step 4. Assumes nothing.
 use Prim.Native.Nat.{ℕ}
 use lib.ListN.{length-replicate}
+use Rattle.model.specs.Board.{edgeLimit}
 use Rattle.decoder.proofs.GrowthStep.{raisable, fusable, grows}
 use borrow.Author.Needs.{needs}
 use Rattle.decoder.proofs.book.Book.grow.Statement.{statement}
@@ -13,7 +14,7 @@ raise-requires : tie.Need-raise-requires
 raise-requires c κs =
     let marked = c .before .before .before in
     let start = marked .before .before .before .before .before in
-    raisable (start .args .t1) _ _ _ (start .pre) _ (marked .tree-of .ensures) _ (length-replicate {A = ℕ} 4096 0)
+    raisable (start .args .t1) _ _ _ (start .pre) _ (marked .tree-of .ensures) _ (length-replicate {A = ℕ} edgeLimit 0)
 
 fuse-listed-requires : tie.Need-fuse-listed-requires
 fuse-listed-requires c κs =

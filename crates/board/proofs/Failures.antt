@@ -1,0 +1,51 @@
+-- The first failure of a list of rules, found in its parts. Assumes nothing.
+use mathlib.Core.Path.{_≡_, refl}
+use mathlib.Core.List.{List, [], _∷_, _++_, map}
+use mathlib.Core.Option.{none, some, Option·some-ne-none}
+use Rattle.model.specs.declared.refusal.Refusal.{Refusal}
+use Rattle.model.specs.Sums.{orElse}
+use Rattle.model.specs.Refusals.{Rule, Test, tested, firstFailure, refusalOf}
+use Rattle.board.specs.declared.outcome.Check.{Check}
+use Rattle.board.specs.declared.outcome.Check.the-variants.{Passed, Failed}
+use Rattle.board.specs.Checks.{testOf}
+
+-- of two lists the first decides, unless nothing of it fails
+pub refusal-append : (rs qs : List Rule) → refusalOf (rs ++ qs) ≡ orElse (refusalOf rs) (refusalOf qs)
+refusal-append [] qs = refl
+refusal-append (R ∷ rs) qs = go (tested R) (refusal-append rs qs)
+  where
+    go : (t : Test) → refusalOf (rs ++ qs) ≡ orElse (refusalOf rs) (refusalOf qs)
+        → firstFailure (t ∷ map tested (rs ++ qs)) ≡ orElse (firstFailure (t ∷ map tested rs)) (refusalOf qs)
+    go none p = p
+    go (some n) p = refl
+
+pub neither-fails : (t u : Test) → orElse t u ≡ none → (t ≡ none) × (u ≡ none)
+neither-fails none u p = (refl, p)
+neither-fails (some n) u p = absurd (Option·some-ne-none n p)
+
+-- nothing of a list fails exactly where none of its tests does
+abbrev pub Each : List Rule → Type 0
+Each [] = Unit {0}
+Each (R ∷ rs) = (tested R ≡ none) × Each rs
+
+pub each-passes : (rs : List Rule) → refusalOf rs ≡ none → Each rs
+each-passes [] p = tt
+each-passes (R ∷ rs) p = go (tested R) refl (each-passes rs) p
+  where
+    go : (t : Test) → tested R ≡ t → (refusalOf rs ≡ none → Each rs) → firstFailure (t ∷ map tested rs) ≡ none → (tested R ≡ none) × Each rs
+    go none e rest q = (e, rest q)
+    go (some n) e rest q = absurd (Option·some-ne-none n q)
+
+pub passes-each : (rs : List Rule) → Each rs → refusalOf rs ≡ none
+passes-each [] e = refl
+passes-each (R ∷ rs) e = rw (e .0) (passes-each rs (e .1))
+
+-- Two checks after each other: the first, which answers r, refuses, or it passes and the second decides.
+pub refuses : (t u : Test) (r : Check) {n : Refusal} → testOf r ≡ t → r ≡ Failed n → orElse t u ≡ some n
+refuses t u r e g = rw (← e, g)
+
+pub passes-on : (t u : Test) (r : Check) → testOf r ≡ t → r ≡ Passed → orElse t u ≡ u
+passes-on t u r e g = rw (← e, g)
+
+pub passed : (t : Test) (r : Check) → testOf r ≡ t → r ≡ Passed → t ≡ none
+passed t r e g = rw (← e, g)

@@ -1,0 +1,115 @@
+use crate::bytes::edge_above;
+use crate::bytes::vertex_above;
+use crate::counts::check_counts;
+use crate::ends::first_equal;
+use crate::ends::first_outside;
+use crate::outcome::Check;
+use crate::outcome::FoundEdge;
+use crate::outcome::FoundVertex;
+use model::refusal::Refusal;
+ghost use mathlib.Core.Path.{_≡_};
+ghost use Prim.Native.Nat.{_*_, _≤_};
+ghost use lib.ListN.{length};
+ghost use Rattle.model.specs.Board.{edgeLimit, vertexLimit};
+ghost use Rattle.model.specs.Lent.{before, boardLent, sheetLent};
+ghost use Rattle.model.specs.Refusals.{refusalOf, edgesOf, edgeRules, byteRules, boardRules, sheetRules, decodeRefusal, verdictRefusal};
+ghost use Rattle.board.specs.Checks.{testOf};
+
+// The tests 4 to 6, once the counts have passed.
+fn check_edges(vertices: usize, ends: &[u16], marks: &[u8]) -> Check
+    requires { ⌜ (length (now ends) ≤ 2 * edgeLimit) × (length (now marks) ≡ edgesOf (now ends)) ⌝ }
+    ensures { λ r. ⌜ testOf r ≡ refusalOf (edgeRules (boardLent vertices ends marks)) ⌝ }
+{
+    if let FoundEdge::At(e) = first_outside(vertices, ends) {
+        return Check::Failed(Refusal::EndRange(e));
+    }
+    if let FoundEdge::At(e) = first_equal(ends) {
+        return Check::Failed(Refusal::EqualEnds(e));
+    }
+    if let FoundEdge::At(e) = edge_above(marks, 3) {
+        return Check::Failed(Refusal::MarkRange(e));
+    }
+    Check::Passed
+}
+
+// The tests 7 and 8, once the lengths have passed. They ask nothing of the board.
+fn check_bytes(syndrome: &[u8], loss: &[u8]) -> Check
+    requires { ⌜ (length (now syndrome) ≤ vertexLimit) × (length (now loss) ≤ edgeLimit) ⌝ }
+    ensures { λ r. ⌜ testOf r ≡ refusalOf (byteRules (before syndrome) (before loss)) ⌝ }
+{
+    if let FoundVertex::At(v) = vertex_above(syndrome, 1) {
+        return Check::Failed(Refusal::SyndromeByte(v));
+    }
+    if let FoundEdge::At(e) = edge_above(loss, 1) {
+        return Check::Failed(Refusal::LossByte(e));
+    }
+    Check::Passed
+}
+
+// The tests 1 to 6 of a board; `others` says whether each buffer lent beside it has its length.
+pub fn check_board(vertices: usize, ends: &[u16], marks: &[u8], others: bool) -> Check
+    ensures { λ r. ⌜ testOf r ≡ refusalOf (boardRules (boardLent vertices ends marks) others) ⌝ }
+{
+    let fit = (marks.len() == ends.len() / 2) & others;
+    if let Check::Failed(refusal) = check_counts(vertices, ends, fit) {
+        return Check::Failed(refusal);
+    }
+    check_edges(vertices, ends, marks)
+}
+
+// The tests 1 to 8 of a sheet; `others` says whether each buffer lent beside it has its length.
+pub fn check_sheet(
+    vertices: usize,
+    ends: &[u16],
+    marks: &[u8],
+    syndrome: &[u8],
+    loss: &[u8],
+    others: bool,
+) -> Check
+    ensures { λ r. ⌜ testOf r ≡ refusalOf (sheetRules (sheetLent vertices ends marks syndrome loss) others) ⌝ }
+{
+    let fit = (syndrome.len() == vertices) & (loss.len() == ends.len() / 2) & others;
+    if let Check::Failed(refusal) = check_board(vertices, ends, marks, fit) {
+        return Check::Failed(refusal);
+    }
+    check_bytes(syndrome, loss)
+}
+
+// What decoding is lent: a sheet, and two buffers to fill.
+pub fn check_decode(
+    vertices: usize,
+    ends: &[u16],
+    marks: &[u8],
+    syndrome: &[u8],
+    loss: &[u8],
+    support: &[u8],
+    correction: &[u8],
+) -> Check
+    ensures { λ r.
+        ⌜ testOf r ≡ decodeRefusal (sheetLent vertices ends marks syndrome loss) (before support) (before correction) ⌝ }
+{
+    let edges = ends.len() / 2;
+    let fit = (support.len() == edges) & (correction.len() == edges);
+    check_sheet(vertices, ends, marks, syndrome, loss, fit)
+}
+
+// What the verdict is lent: a sheet, and a handed-in set.
+pub fn check_verdict(
+    vertices: usize,
+    ends: &[u16],
+    marks: &[u8],
+    syndrome: &[u8],
+    loss: &[u8],
+    handed: &[u8],
+) -> Check
+    ensures { λ r. ⌜ testOf r ≡ verdictRefusal (sheetLent vertices ends marks syndrome loss) (before handed) ⌝ }
+{
+    let fit = handed.len() == ends.len() / 2;
+    if let Check::Failed(refusal) = check_sheet(vertices, ends, marks, syndrome, loss, fit) {
+        return Check::Failed(refusal);
+    }
+    if let FoundEdge::At(e) = edge_above(handed, 1) {
+        return Check::Failed(Refusal::HandedByte(e));
+    }
+    Check::Passed
+}

@@ -1,0 +1,119 @@
+-- Counts of the numbers below n that are in a set. Assumes nothing.
+use Prim.Native.Nat.{ℕ, zero, suc, _+_, _%_, _≤_, _<_}
+use mathlib.Core.Path.{_≡_, refl, ap, ap₂, _∙_}
+use mathlib.Core.Bool.{Bool, true, false}
+use mathlib.Core.Logic.{_≢_}
+use native.Mathlib.Nat.{not-suc-le-zero, le-refl}
+use native.Mathlib.Decide.{decLt}
+use native.Mathlib.Numerals.{add-one}
+use native.Mathlib.Omega.{arith}
+use borrow.Author.Tests.{eqb-true, eqb-false, eq-eqb, ne-eqb}
+use lib.Dec.{eqb}
+use Rattle.model.specs.Sums.{Set, _⊕_, bit, countUpTo, oddUpTo}
+use Rattle.model.proofs.SumLaws.{below-suc, count-bound, count-cong}
+use Rattle.model.proofs.Bits.{bit-bound}
+
+-- one number more
+pub count-next : (n : ℕ) (f : Set) → countUpTo (n + 1) f ≡ countUpTo n f + bit (f n)
+unfolding countUpTo
+count-next n f = ap (λ k. countUpTo k f) (add-one n)
+
+pub count-in : (n : ℕ) (f : Set) → f n ≡ true → countUpTo (n + 1) f ≡ countUpTo n f + 1
+count-in n f p = count-next n f ∙ ap (λ b. countUpTo n f + bit b) p
+
+pub count-out : (n : ℕ) (f : Set) → f n ≡ false → countUpTo (n + 1) f ≡ countUpTo n f
+count-out n f p = count-next n f ∙ ap (λ b. countUpTo n f + bit b) p ∙ omega arith
+
+-- more numbers count no less
+pub count-less : (m n : ℕ) (f : Set) → m ≤ n → countUpTo m f ≤ countUpTo n f
+unfolding countUpTo
+count-less m zero f h = let z : m ≡ 0 = omega arith in rw z (le-refl _)
+count-less m (suc n) f h =
+    below-suc (suc n) m (omega arith)
+    (λ l. omega (arith, count-less m n f (omega arith)))
+    (λ q. rw q (le-refl _))
+
+-- a number of f below n is counted before n
+pub count-before : (i n : ℕ) (f : Set) → i < n → f i ≡ true → countUpTo i f < countUpTo n f
+count-before i n f h p = omega (arith, count-in i f p, count-less (i + 1) n f (omega arith))
+
+-- the k-th number of f
+pub record Nth (n : ℕ) (f : Set) (k : ℕ) : Type 0 where
+  pub at : ℕ
+  pub less : at < n
+  pub holds : f at ≡ true
+  pub before : countUpTo at f ≡ k
+
+pub nth : (n : ℕ) (f : Set) (k : ℕ) → k < countUpTo n f → Nth n f k
+unfolding countUpTo
+nth zero f k h = absurd (not-suc-le-zero h)
+nth (suc n) f k h =
+    elim (decLt k (countUpTo n f)) [ yes l ↦ later (nth n f k l) | no l ↦ last l (f n) refl ]
+  where
+    later : Nth n f k → Nth (suc n) f k
+    later w = record { at = w .at; less = omega (arith, w .less); holds = w .holds; before = w .before }
+
+    last : ¬ (k < countUpTo n f) → (b : Bool) → f n ≡ b → Nth (suc n) f k
+    last l true p =
+        record { at = n; less = le-refl _; holds = p; before = omega (arith, ap bit p) }
+    last l false p = absurd (none-left (ap bit p))
+      where
+        none-left : bit (f n) ≡ 0 → ⊥
+        none-left z = omega arith
+
+-- a count of two sets that part a third
+pub count-parts :
+    (n : ℕ) (f g h : Set) → ((i : ℕ) → i < n → bit (f i) ≡ bit (g i) + bit (h i)) → countUpTo n f ≡ countUpTo n g + countUpTo n h
+unfolding countUpTo
+count-parts zero f g h same = refl
+count-parts (suc n) f g h same =
+    omega (arith, count-parts n f g h (λ i l. same i (omega arith)), same n (le-refl _))
+
+-- all of them
+pub count-all : (n : ℕ) (f : Set) → ((i : ℕ) → i < n → f i ≡ true) → countUpTo n f ≡ n
+unfolding countUpTo
+count-all zero f all = refl
+count-all (suc n) f all =
+    omega (arith, count-all n f (λ i l. all i (omega arith)), ap bit (all n (le-refl _)))
+
+-- a number that is not counted leaves room
+pub count-room : (n i : ℕ) (f : Set) → i < n → f i ≡ false → countUpTo n f < n
+unfolding countUpTo
+count-room zero i f h p = absurd (not-suc-le-zero h)
+count-room (suc n) i f h p =
+    below-suc n i h
+    (λ l. omega (arith, count-room n i f l p, bit-bound (f n)))
+    (λ q. rw (sym-last q) (omega (arith, count-bound n f)))
+  where
+    sym-last : i ≡ n → f n ≡ false
+    sym-last q = rw q at p
+
+-- one number more is counted
+pub count-more : (n i : ℕ) (f g : Set) → i < n → f i ≡ false → g i ≡ true → ((j : ℕ) → j ≢ i → g j ≡ f j) → countUpTo n g ≡ suc (countUpTo n f)
+unfolding countUpTo
+count-more zero i f g h p q same = absurd (not-suc-le-zero h)
+count-more (suc n) i f g h p q same =
+    below-suc n i h
+    (λ l. ap₂ (λ x b. x + bit b) (count-more n i f g l p q same) (same n (λ r. omega arith)) ∙ omega arith)
+    (λ r. rw (rw r at p, rw r at q, count-cong n g f (λ j l. same j (λ s. omega arith))) (omega arith))
+
+-- an odd count is an odd number of ones
+pub count-parity : (n : ℕ) (f : Set) → eqb (countUpTo n f % 2) 1 ≡ oddUpTo n f
+unfolding countUpTo oddUpTo
+count-parity zero f = refl
+count-parity (suc n) f = go (f n) (oddUpTo n f) (count-parity n f)
+  where
+    go : (b t : Bool) → eqb (countUpTo n f % 2) 1 ≡ t → eqb ((countUpTo n f + bit b) % 2) 1 ≡ t ⊕ b
+    go true true p = ne-eqb ((countUpTo n f + 1) % 2) 1 (λ q. omega (arith, eqb-true (countUpTo n f % 2) 1 p))
+    go true false p = eq-eqb ((countUpTo n f + 1) % 2) 1 (omega (arith, eqb-false (countUpTo n f % 2) 1 p))
+    go false true p = eq-eqb ((countUpTo n f + 0) % 2) 1 (omega (arith, eqb-true (countUpTo n f % 2) 1 p))
+    go false false p = ne-eqb ((countUpTo n f + 0) % 2) 1 (λ q. omega (arith, eqb-false (countUpTo n f % 2) 1 p))
+
+-- nothing from n on is counted
+pub count-beyond : (n k : ℕ) (f : Set) → n ≤ k → ((i : ℕ) → n ≤ i → i < k → f i ≡ false) → countUpTo k f ≡ countUpTo n f
+unfolding countUpTo
+count-beyond n zero f h out = let z : n ≡ 0 = omega arith in rw z
+count-beyond n (suc k) f h out =
+    below-suc (suc k) n (omega arith)
+    (λ l. rw (count-beyond n k f (omega arith) (λ i m j. out i m (omega arith)), out k (omega arith) (le-refl _)) (omega arith))
+    (λ q. rw q)

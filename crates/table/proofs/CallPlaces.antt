@@ -1,0 +1,130 @@
+-- The places of each call's refusals. A test that goes through places stands after those of the counts, so it goes through few.
+-- Assumes nothing.
+use Prim.Native.Nat.{ℕ, _*_, _%_, _^_, _≤_, _<_}
+use mathlib.Core.Path.{_≡_}
+use mathlib.Core.Bool.{Bool, true, _&&_}
+use mathlib.Core.List.{List, [], _∷_}
+use native.Mathlib.Omega.{arith}
+use lib.ListN.{length}
+use lib.Dec.{eqb, leb}
+use Rattle.model.specs.declared.refusal.Refusal.the-variants.{VertexCount, EndCount, BufferLength, EndRange, EqualEnds, MarkRange, SyndromeByte, LossByte, HandedByte, TorusSide, TextLength, TextBuffer}
+use Rattle.model.specs.Sums.{ones}
+use Rattle.model.specs.Board.{Board, Sheet, edges, vertexLimit, edgeLimit}
+use Rattle.model.specs.Decoding.{smallestOdd}
+use Rattle.model.specs.Refusals.{Test, refusalOf, sized, edgesOf, outside, endsEqual, above, countRules, edgeRules, boardRules, byteRules, sheetRules, sideRule, lengthRule, handedRule, decodeRefusal, verdictRefusal, distanceRefusal, torusRefusal, oddPartTest, noneAt}
+use Rattle.model.specs.Torus.{leastSide, largestSide}
+use Rattle.model.specs.Text.{textOf}
+use Rattle.model.specs.TextOutcomes.{Buffers, textLimit, textRule, readRefusal, writeRefusal}
+use Rattle.model.proofs.Places.{PlaceBelow, wider, unless-below, at-below, first-below, else-below, rules-below}
+use Rattle.theory.proofs.SmallestOdd.{smallest-odd-exactly}
+use Rattle.board.proofs.Validity.{board-tests, counts-allow, sheet-tests, board-allows}
+use Rattle.board.proofs.Calls.{verdict-tests, sheet-allows}
+use Rattle.text.proofs.ReadOutcome.{fit}
+use Rattle.text.proofs.WriteOutcome.{textRules, write-tests}
+
+-- there is no place, or it is that of an edge or of a vertex
+abbrev pub Small : Test → Type 0
+Small t = PlaceBelow edgeLimit t
+
+-- the 56 bits of a place have room for it
+pub roomy : {t : Test} → Small t → PlaceBelow (2 ^ 56) t
+roomy w = wider (omega arith) w
+
+-- Parts of lists
+
+counts-small : (vertices : ℕ) (ends : List ℕ) (fit : Bool) → Small (refusalOf (countRules vertices ends fit))
+counts-small vertices ends fit =
+    rules-below (countRules vertices ends fit) (
+      unless-below (leb 1 vertices && leb vertices vertexLimit) VertexCount (omega arith),
+      (
+        unless-below (eqb (length ends % 2) 0 && leb (length ends) (2 * edgeLimit)) EndCount (omega arith),
+        (unless-below fit BufferLength (omega arith), tt),
+      ),
+    )
+
+edges-small : (B : Board) → (length (B .ends) ≤ 2 * edgeLimit) × (edges B ≡ edgesOf (B .ends)) → Small (refusalOf (edgeRules B))
+edges-small B h =
+    let few : edges B ≤ edgeLimit = omega (arith, h .0, h .1) in
+    rules-below (edgeRules B) (
+      first-below (edges B) (outside B) (λ e. EndRange (record { 0 = e })) (λ e l. omega arith),
+      (
+        first-below (edges B) (endsEqual B) (λ e. EqualEnds (record { 0 = e })) (λ e l. omega arith),
+        (first-below (edges B) (above 3 (B .marks)) (λ e. MarkRange (record { 0 = e })) (λ e l. omega arith), tt),
+      ),
+    )
+
+bytes-small : (syndrome loss : List ℕ) → (length syndrome ≤ vertexLimit) × (length loss ≤ edgeLimit)
+    → Small (refusalOf (byteRules syndrome loss))
+bytes-small syndrome loss h =
+    let lit = h .0 in
+    let lost = h .1 in
+    rules-below (byteRules syndrome loss) (
+      first-below (length syndrome) (above 1 syndrome) (λ v. SyndromeByte (record { 0 = v })) (λ v l. omega arith),
+      (first-below (length loss) (above 1 loss) (λ e. LossByte (record { 0 = e })) (λ e l. omega arith), tt),
+    )
+
+-- Lists that the calls share
+
+board-small : (B : Board) (others : Bool) → Small (refusalOf (boardRules B others))
+board-small B others =
+    let fits = sized (B .marks) (edgesOf (B .ends)) && others in
+    rw (board-tests B others)
+    (else-below _ _ (counts-small (B .vertices) (B .ends) fits) (λ p. edges-small B (counts-allow B others p)))
+
+sheet-small : (X : Sheet) (others : Bool) → Small (refusalOf (sheetRules X others))
+sheet-small X others =
+    rw (sheet-tests X others)
+    (else-below _ _ (board-small _ _) (λ p. bytes-small (X .syndrome) (X .loss) (board-allows X others p)))
+
+-- The calls
+
+pub decode-small : (X : Sheet) (support correction : List ℕ) → Small (decodeRefusal X support correction)
+unfolding decodeRefusal
+decode-small X support correction = sheet-small X _
+
+pub verdict-small : (X : Sheet) (handed : List ℕ) → Small (verdictRefusal X handed)
+verdict-small X handed =
+    rw (verdict-tests X handed)
+    (else-below _ _ (sheet-small X _) (λ p.
+    let few = sheet-allows X handed p in
+    rules-below (handedRule handed ∷ []) (
+      first-below (length handed) (above 1 handed) (λ e. HandedByte (record { 0 = e })) (λ e l. omega arith),
+      tt,
+    )))
+
+-- number 10's vertex is one of the board's
+pub odd-small : (X : Sheet) → X .board .vertices ≤ vertexLimit → Small (oddPartTest X)
+odd-small X h =
+    at-below (smallestOdd (X .board) (ones (X .syndrome))) noneAt
+    (λ v p. omega (arith, smallest-odd-exactly (X .board) (ones (X .syndrome)) v .0 p .less))
+
+pub distance-small : (B : Board) (shown : List ℕ) → Small (distanceRefusal B shown)
+unfolding distanceRefusal
+distance-small B shown = board-small B _
+
+-- the side is the only place that isn't bounded by a test
+pub torus-side : (side : ℕ) (ends marks : List ℕ) → side < 2 ^ 32 → PlaceBelow (2 ^ 56) (torusRefusal side ends marks)
+unfolding torusRefusal
+torus-side side ends marks h =
+    let fits = sized ends (4 * (side * side)) && sized marks (2 * (side * side)) in
+    rules-below (sideRule side ∷ lengthRule fits ∷ []) (
+      unless-below (leb leastSide side && leb side largestSide) (TorusSide side) (omega arith),
+      (unless-below fits BufferLength (omega arith), tt),
+    )
+
+pub read-small : (text : List ℕ) (old : Buffers) → Small (readRefusal text old)
+unfolding readRefusal
+read-small text old =
+    rules-below (lengthRule (fit old) ∷ textRule text ∷ []) (
+      unless-below (fit old) BufferLength (omega arith),
+      (unless-below (leb (length text) textLimit) TextLength (omega arith), tt),
+    )
+
+pub write-small : (X : Sheet) (buffer : List ℕ) → Small (writeRefusal X buffer)
+write-small X buffer =
+    rw (write-tests X buffer)
+    (else-below _ _ (sheet-small X true) (λ p.
+    rules-below (textRules X buffer) (
+      unless-below (leb (length (textOf X)) textLimit) TextLength (omega arith),
+      (unless-below (leb (length (textOf X)) (length buffer)) TextBuffer (omega arith), tt),
+    )))

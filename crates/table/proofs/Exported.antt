@@ -1,0 +1,57 @@
+-- What every exported function shows, by one law: of an answer a that is the definition's answer b the number r is packed; so r is the
+-- definition's number, and what holds of the answer holds of what a caller takes from r. Assumes nothing.
+use Prim.Native.Nat.{ℕ, _^_, _<_}
+use mathlib.Core.Path.{_≡_, sym, ap, _∙_, subst}
+use mathlib.Core.List.{List}
+use Rattle.model.specs.declared.answers.Decoded.{Decoded}
+use Rattle.model.specs.declared.answers.Verdict.{Verdict}
+use Rattle.model.specs.declared.answers.Distance.{Distance}
+use Rattle.model.specs.declared.answers.Built.{Built}
+use Rattle.model.specs.declared.answers.Reading.{Reading}
+use Rattle.model.specs.declared.answers.Written.{Written}
+use Rattle.model.specs.Board.{Board, Sheet}
+use Rattle.model.specs.Outcomes.{decodeAnswer, Decodes, DecodesSoundly, verdictAnswer, Judges, JudgesSoundly}
+use Rattle.model.specs.Outcomes.{distanceAnswer, Measures, torusAnswer, Builds}
+use Rattle.model.specs.TextOutcomes.{Buffers, counts, readOutcome, Reads, writeAnswer, Writes}
+use Rattle.model.specs.Packing.{packedDecoded, packedVerdict, packedDistance, packedBuilt, packedReading, packedWritten}
+use Rattle.model.specs.Packing.{unpackedDecoded, unpackedVerdict, unpackedDistance, unpackedBuilt, unpackedReading, unpackedWritten}
+use Rattle.table.proofs.Returned.{decode-returned, verdict-returned, distance-returned, torus-returned, read-returned, write-returned}
+
+exported : {A : Type 0} (pack : A → ℕ) (unpack : ℕ → A) (P : A → Type 0) {a b : A} {r : ℕ} → unpack (pack b) ≡ b → a ≡ b → r ≡ pack a → P a
+    → (r ≡ pack b) × P (unpack r)
+exported pack unpack P back is number holds =
+    let packed = number ∙ ap pack is in
+    (packed, subst P (is ∙ sym (ap unpack packed ∙ back)) holds)
+
+pub decode-exported : {X : Sheet} {support correction : List ℕ} {a : Decoded} {s k : List ℕ} {r : ℕ} → r ≡ packedDecoded a
+    → Decodes X support correction a s k × DecodesSoundly X support correction a k
+    → (r ≡ packedDecoded (decodeAnswer X support correction))
+    × (Decodes X support correction (unpackedDecoded r) s k × DecodesSoundly X support correction (unpackedDecoded r) k)
+decode-exported {X} {support} {correction} {a} {s} {k} p w =
+    exported packedDecoded unpackedDecoded (λ d. Decodes X support correction d s k × DecodesSoundly X support correction d k)
+    (decode-returned X support correction) (w .0 .result) p w
+
+pub verdict-exported : {X : Sheet} {handed : List ℕ} {a : Verdict} {r : ℕ} → r ≡ packedVerdict a → Judges X handed a × JudgesSoundly X handed a
+    → (r ≡ packedVerdict (verdictAnswer X handed)) × (Judges X handed (unpackedVerdict r) × JudgesSoundly X handed (unpackedVerdict r))
+verdict-exported {X} {handed} p w =
+    exported packedVerdict unpackedVerdict (λ v. Judges X handed v × JudgesSoundly X handed v) (verdict-returned X handed) (w .0 .result) p w
+
+pub distance-exported : {B : Board} {shown : List ℕ} {a : Distance} {l : List ℕ} {r : ℕ} → r ≡ packedDistance a → Measures B shown a l
+    → (r ≡ packedDistance (distanceAnswer B shown)) × Measures B shown (unpackedDistance r) l
+distance-exported {B} {shown} {a} {l} p w =
+    exported packedDistance unpackedDistance (λ d. Measures B shown d l) (distance-returned B shown) (w .result) p w
+
+pub torus-exported : {side : ℕ} {ends marks : List ℕ} {a : Built} {e m : List ℕ} {r : ℕ} → side < 2 ^ 32 → r ≡ packedBuilt a → Builds side ends marks a e m
+    → (r ≡ packedBuilt (torusAnswer side ends marks)) × Builds side ends marks (unpackedBuilt r) e m
+torus-exported {side} {ends} {marks} {a} {e} {m} h p w =
+    exported packedBuilt unpackedBuilt (λ b. Builds side ends marks b e m) (torus-returned side ends marks h) (w .result) p w
+
+pub read-exported : {text : List ℕ} {old : Buffers} {a : Reading} {new : Buffers} {r : ℕ} → r ≡ packedReading a → Reads text old a new
+    → (r ≡ packedReading (counts (readOutcome text old))) × Reads text old (unpackedReading r) new
+read-exported {text} {old} {a} {new} p w =
+    exported packedReading unpackedReading (λ x. Reads text old x new) (read-returned text old) (w .result) p w
+
+pub write-exported : {X : Sheet} {buffer : List ℕ} {a : Written} {t : List ℕ} {r : ℕ} → r ≡ packedWritten a → Writes X buffer a t
+    → (r ≡ packedWritten (writeAnswer X buffer)) × Writes X buffer (unpackedWritten r) t
+write-exported {X} {buffer} {a} {t} p w =
+    exported packedWritten unpackedWritten (λ x. Writes X buffer x t) (write-returned X buffer) (w .result) p w

@@ -1,0 +1,119 @@
+-- The verdict's outcome from that of decoding: a refusal of its own tests, number 10 from decoding, or the comparison with the correction
+-- that decoding wrote. Assumes nothing.
+use Prim.Native.Nat.{ℕ, _<_}
+use mathlib.Core.Path.{_≡_, refl, sym, ap, _∙_}
+use mathlib.Core.List.{List}
+use mathlib.Core.Option.{Option, none, some}
+use Rattle.model.specs.declared.refusal.Refusal.{Refusal}
+use Rattle.model.specs.declared.answers.Decoded.{Decoded}
+use Rattle.model.specs.declared.answers.Decoded.the-variants as decoded
+use Rattle.model.specs.declared.answers.Verdict.{Verdict}
+use Rattle.model.specs.declared.answers.Verdict.the-variants as verdict
+use Rattle.model.specs.Sums.{Set, _⊕_, bit, ones, bytes}
+use Rattle.model.specs.Board.{Board, Sheet, ValidBytes, edges}
+use Rattle.model.specs.Winding.{together, size}
+use Rattle.model.specs.Decoding.{smallestOdd, growths, corrected}
+use Rattle.model.specs.Verdict.{differs, judgedAt, judged}
+use Rattle.model.specs.Refusals.{noneAt, verdictRefusal}
+use Rattle.model.specs.Outcomes.{keyOrNone, keyOr, Decodes, judgedOrNone, verdictAnswer, Judges}
+use Rattle.model.proofs.Contradiction.{zero-one}
+use Rattle.model.proofs.Bits.{bit-bound}
+use Rattle.model.proofs.ListLaws.{ones-bytes, length-values, getD-values}
+use Rattle.theory.proofs.CrossedLines.{crossings-cong}
+use Rattle.theory.proofs.Decodings.{passed-answer, none-answer, key-answer}
+use Rattle.board.proofs.Calls.{passes-decode, passes-verdict}
+use Rattle.verdict.specs.Judging.{Judgeable, Comparable}
+
+-- only the edges of the correction below the edge count matter
+judged-cong : (B : Board) (S C D H : Set) → ((e : ℕ) → e < edges B → C e ≡ D e) → judged B S C H ≡ judged B S D H
+unfolding judged
+judged-cong B S C D H same =
+    ap (λ x. judgedAt (differs B S H) x)
+    (crossings-cong B (together H C) (together H D) (λ e h. ap (λ t. H e ⊕ t) (same e h)))
+
+-- the bytes of a set are valid
+bytes-valid : (n : ℕ) (D : Set) → ValidBytes n (bytes n D)
+bytes-valid n D =
+    record {
+      count = length-values n (λ e. bit (D e));
+      each = λ i h. rw (getD-values n (λ e. bit (D e)) i 0 h) (bit-bound (D i));
+    }
+
+-- The verdict's answer
+
+-- a test of the verdict's own fails
+pub refused-judges : (X : Sheet) (handed : List ℕ) (n : Refusal) → verdictRefusal X handed ≡ some n → Judges X handed (verdict.Refused n)
+unfolding verdictAnswer
+refused-judges X handed n p = record { result = rw p }
+
+-- none does: number 10 with the smallest vertex of all odd parts, or the comparison
+pub passed-verdict : (X : Sheet) (handed : List ℕ) → verdictRefusal X handed ≡ none → verdictAnswer X handed ≡ judgedOrNone X handed
+unfolding verdictAnswer
+passed-verdict X handed p = rw p
+
+pub none-verdict : (X : Sheet) (handed : List ℕ) (v : ℕ) → smallestOdd (X .board) (ones (X .syndrome)) ≡ some v
+    → judgedOrNone X handed ≡ verdict.Refused (noneAt v)
+unfolding judgedOrNone
+none-verdict X handed v p = rw p
+
+pub judged-verdict : (X : Sheet) (handed : List ℕ) → smallestOdd (X .board) (ones (X .syndrome)) ≡ none
+    → judgedOrNone X handed ≡ judged (X .board) (ones (X .syndrome)) (corrected X) (ones handed)
+unfolding judgedOrNone
+judged-verdict X handed p = rw p
+
+-- That answer from decoding's, a, with what decoding wrote
+
+module _ (X : Sheet) (handed support correction support′ correction′ : List ℕ) (lent : Comparable X handed support correction)
+    (a : Decoded) (d : Decodes X support correction a support′ correction′) where
+  decoded-is : a ≡ keyOrNone X
+  decoded-is =
+      d .result
+      ∙ passed-answer X support correction
+      (passes-decode X support correction
+      (record { sheet = lent .sheet; support-long = lent .support-long; correction-long = lent .correction-long }))
+
+  judged-is : verdictAnswer X handed ≡ judgedOrNone X handed
+  judged-is = passed-verdict X handed (passes-verdict X handed (record { sheet = lent .sheet; bytes = lent .handed-bytes }))
+
+  -- decoding refuses: number 10, with the same vertex
+  pub none-judges : (n : Refusal) → a ≡ decoded.Refused n → Judges X handed (verdict.Refused n)
+  none-judges n refused = go (smallestOdd (X .board) (ones (X .syndrome))) refl
+    where
+      go : (o : Option ℕ) → smallestOdd (X .board) (ones (X .syndrome)) ≡ o → Judges X handed (verdict.Refused n)
+      go (some v) p =
+          let q : decoded.Refused n ≡ decoded.Refused (noneAt v) = sym refused ∙ decoded-is ∙ none-answer X v p in
+          let same : n ≡ noneAt v = cc in
+          record { result = ap verdict.Refused same ∙ sym (judged-is ∙ none-verdict X handed v p) }
+      go none p =
+          let q : decoded.Refused n ≡ decoded.Key (growths X) (size (X .board) (corrected X)) = sym refused ∙ decoded-is ∙ key-answer X p in
+          zero-one (cc)
+
+  -- decoding gives a key: the correction is written, and can be compared
+  module _ (g k : ℕ) (key : a ≡ decoded.Key g k) where
+    key-written : correction′ ≡ bytes (edges (X .board)) (corrected X)
+    key-written = d .correction-bytes ∙ ap (λ x. keyOr x (bytes (edges (X .board)) (corrected X)) correction) key
+
+    pub judgeable : Judgeable (X .board) (X .syndrome) handed correction′
+    judgeable =
+        record {
+          inside = lent .sheet .board .inside;
+          syndrome-bytes = lent .sheet .syndrome;
+          handed-bytes = lent .handed-bytes;
+          correction-bytes = rw key-written (bytes-valid (edges (X .board)) (corrected X));
+        }
+
+    pub key-judges : (r : Verdict) → r ≡ judged (X .board) (ones (X .syndrome)) (ones correction′) (ones handed) → Judges X handed r
+    key-judges r q = go (smallestOdd (X .board) (ones (X .syndrome))) refl
+      where
+        go : (o : Option ℕ) → smallestOdd (X .board) (ones (X .syndrome)) ≡ o → Judges X handed r
+        go (some v) p =
+            let e : decoded.Key g k ≡ decoded.Refused (noneAt v) = sym key ∙ decoded-is ∙ none-answer X v p in
+            zero-one (cc)
+        go none p =
+            record {
+              result =
+                  q
+                  ∙ judged-cong (X .board) (ones (X .syndrome)) (ones correction′) (corrected X) (ones handed)
+                  (λ e h. ap (λ l. ones l e) key-written ∙ ones-bytes (edges (X .board)) (corrected X) e h)
+                  ∙ sym (judged-is ∙ judged-verdict X handed p);
+            }
