@@ -56,13 +56,13 @@ fn read_lines(
     }
 }
 
-// How many vertices and edges are filled in.
+// Of how many vertices and edges the entries are filled in.
 struct Filled {
     vertices: usize,
     edges: usize,
 }
 
-// Reads a text into the lent buffers and answers with both filled. It is read into arrays first, and then as many entries are copied as
+// Reads a text into the lent buffers and answers with both counts. It is read into arrays first, and then as many entries are copied as
 // were read, none where it is refused.
 pub fn read(
     text: &[u8],
