@@ -79,11 +79,6 @@ module _ (n : ℕ) (ends marks syndrome loss support written : List ℕ) where
           correction-long = long-k;
         }
 
-    -- as many bytes as an answer writes may be copied
-    pub fits : (r : Decoded) (count : ℕ) → count ≡ writtenBytes r (length loss) → (count ≤ length support) × (count ≤ length written) × (count ≤ edgeLimit)
-    fits (Key g e) count p = omega (arith, lost-long, valid .support-long, valid .correction-long, few)
-    fits (Refused x) count p = omega arith
-
     -- the marks do not matter
     same : length marks ≡ length {A = ℕ} (replicate (length loss) 0)
     same = unmarked-long (length loss) marks (sym lost-long)
@@ -108,20 +103,20 @@ module _ (n : ℕ) (ends marks syndrome loss support written : List ℕ) where
     )
     fronts-long (Refused x) s k s′ k′ long-s long-k w = (ap length (w .support-bytes) ∙ long-s, ap length (w .correction-bytes) ∙ long-k)
 
-    -- so the arrays are whole, and as many bytes as the answer writes can be copied from them
+    -- so the arrays are whole
     pub arrays-long : (r : Decoded) (s k s′ k′ : List ℕ) → length s ≡ length loss → length k ≡ length loss → Keys (bare n ends syndrome loss) s k r s′ k′
         → (length (s′ ++ drop (length loss) (replicate edgeLimit 0)) ≡ edgeLimit) × (length (k′ ++ drop (length loss) (replicate edgeLimit 0)) ≡ edgeLimit)
     arrays-long r s k s′ k′ long-s long-k w =
         let long = fronts-long r s k s′ k′ long-s long-k w in
         (filled-long (length loss) edgeLimit s′ (long .0) few, filled-long (length loss) edgeLimit k′ (long .1) few)
 
-    pub copyable : (r : Decoded) (s k s′ k′ : List ℕ) (count : ℕ) → length s ≡ length loss → length k ≡ length loss → Keys (bare n ends syndrome loss) s k r s′ k′
-        → count ≡ writtenBytes r (length loss)
-        → (count ≤ length (s′ ++ drop (length loss) (replicate edgeLimit 0))) × (count ≤ length (k′ ++ drop (length loss) (replicate edgeLimit 0)))
-    copyable r s k s′ k′ count long-s long-k w p =
-        let long = arrays-long r s k s′ k′ long-s long-k w in
-        let room = fits r count p in
-        (omega (arith, long .0, room .2), omega (arith, long .1, room .2))
+    -- what is copied has room: an answer writes no more than a byte for each edge
+    pub fewer : (r : Decoded) (count : ℕ) → count ≡ writtenBytes r (length loss) → count ≤ length loss
+    fewer (Key g e) count p = omega arith
+    fewer (Refused x) count p = omega arith
+
+    pub room : (length support ≡ length loss) × (length written ≡ length loss)
+    room = (valid .support-long ∙ sym lost-long, valid .correction-long ∙ sym lost-long)
 
     -- a key is copied whole, and of number 10 nothing
     pub decodes : (r : Decoded) (s k s′ k′ rest rest′ : List ℕ) (count : ℕ) → length s ≡ length loss → length k ≡ length loss
@@ -133,8 +128,8 @@ module _ (n : ℕ) (ends marks syndrome loss support written : List ℕ) where
         promised
         (record {
           result = result-is (w .result);
-          support-bytes = rw p (whole s′ rest support (length loss) (long .0) (valid .support-long ∙ sym lost-long) ∙ grown);
-          correction-bytes = rw p (whole k′ rest′ written (length loss) (long .1) (valid .correction-long ∙ sym lost-long) ∙ peeled);
+          support-bytes = rw p (whole s′ rest support (length loss) (long .0) (room .0) ∙ grown);
+          correction-bytes = rw p (whole k′ rest′ written (length loss) (long .1) (room .1) ∙ peeled);
         })
     decodes (Refused x) s k s′ k′ rest rest′ count long-s long-k w p =
         rw p (promised (record { result = result-is (w .result); support-bytes = refl; correction-bytes = refl }))

@@ -1,12 +1,13 @@
 -- `decode` meets both of its promises. Assumes nothing.
 use mathlib.Core.Path.{_≡_, sym, ap, _∙_}
 use mathlib.Core.Option.{none}
+use native.Mathlib.Omega.{arith}
 use borrow.Author.Needs.{needs}
 use Rattle.model.specs.Board.{boardOf, sheetOf, edgeLimit}
 use Rattle.model.specs.Refusals.{decodeRefusal}
 use Rattle.model.proofs.ListLaws.{front-long}
 use Rattle.board.specs.Checks.{testOf}
-use Rattle.decoder.proofs.DecodeLaws.{refuses, few, keyable, fits, arrays-long, copyable, decodes}
+use Rattle.decoder.proofs.DecodeLaws.{refuses, few, keyable, fewer, room, arrays-long, decodes}
 use Rattle.decoder.proofs.decode.Statement.{statement}
 use Rattle.decoder.proofs.decode.Tie as tie
 
@@ -69,10 +70,10 @@ copy-bytes-requires c κs =
     let counted = c .before .before in
     let keyed = counted .before .before .before in
     let ok = passed (keyed .before .before .before) in
-    let front = front-long _ edgeLimit 0 (few _ _ _ _ _ _ _ ok) in (
-      copyable _ _ _ _ _ _ _ ok _ _ _ _ _ _ front front (keyed .key .ensures) (counted .written .ensures) .0,
-      fits _ _ _ _ _ _ _ ok (keyed .key .result) _ (counted .written .ensures) .0,
-    )
+    let front = front-long _ edgeLimit 0 (few _ _ _ _ _ _ _ ok) in
+    let whole = arrays-long _ _ _ _ _ _ _ ok _ _ _ _ _ front front (keyed .key .ensures) in
+    let count = fewer _ _ _ _ _ _ _ ok (keyed .key .result) _ (counted .written .ensures) in
+    (omega (arith, whole .0, few _ _ _ _ _ _ _ ok, count), omega (arith, room _ _ _ _ _ _ _ ok, count))
 
 slice-aggregate-copy-bytes-2 : tie.Need-slice-aggregate-copy-bytes-2
 slice-aggregate-copy-bytes-2 c =
@@ -88,10 +89,10 @@ copy-bytes-requires-2 c κs =
     let counted = first .before .before .before in
     let keyed = counted .before .before .before in
     let ok = passed (keyed .before .before .before) in
-    let front = front-long _ edgeLimit 0 (few _ _ _ _ _ _ _ ok) in (
-      copyable _ _ _ _ _ _ _ ok _ _ _ _ _ _ front front (keyed .key .ensures) (counted .written .ensures) .1,
-      fits _ _ _ _ _ _ _ ok (keyed .key .result) _ (counted .written .ensures) .1,
-    )
+    let front = front-long _ edgeLimit 0 (few _ _ _ _ _ _ _ ok) in
+    let whole = arrays-long _ _ _ _ _ _ _ ok _ _ _ _ _ front front (keyed .key .ensures) in
+    let count = fewer _ _ _ _ _ _ _ ok (keyed .key .result) _ (counted .written .ensures) in
+    (omega (arith, whole .1, few _ _ _ _ _ _ _ ok, count), omega (arith, room _ _ _ _ _ _ _ ok, count))
 
 same-length-3 : tie.Need-same-length-3
 same-length-3 c = search needs
