@@ -1,29 +1,28 @@
 -- From the figures by label to document 01's choice: the labels of the trees are the clusters' labels, the counts by label are their
 -- parities and boundary sizes, and the first of the least is the cluster that grows.
 -- Assumes nothing.
-use Prim.Native.Nat.{ℕ, zero, suc, _+_, _*_, _%_, _≤_, _<_}
-use mathlib.Core.Path.{_≡_, refl, ap, _∙_, subst}
-use mathlib.Core.Bool.{Bool, true, false, cond, not, _&&_, and-comm}
+use Prim.Native.Nat.{ℕ, zero, suc, _%_, _≤_, _<_}
+use mathlib.Core.Path.{_≡_, refl, sym, ap, _∙_, subst}
+use mathlib.Core.Bool.{Bool, true, false, cond, _&&_, and-comm}
 use mathlib.Core.List.{List}
 use mathlib.Core.Option.{Option, none, some}
 use native.Mathlib.Nat.{le-refl}
 use native.Mathlib.Omega.{arith}
-use lib.ListN.{length, getD, length-replicate}
+use lib.ListN.{length, take, length-replicate, length-take}
+use lib.Seq.{getD-take}
 use lib.Dec.{eqb, ltb}
-use borrow.Author.Tests.{ne-eqb}
 use Rattle.model.specs.Sums.{Set, ones}
-use Rattle.model.specs.Board.{Board, EndsWithin, unmarked, vertexLimit}
+use Rattle.model.specs.Board.{Board, unmarked, vertexLimit}
 use Rattle.model.specs.Components.{label, labels, within}
-use Rattle.model.specs.Syndrome.{touches}
 use Rattle.model.specs.Growth.{full, clusters, odd, exposed, boundary, better, choiceUpTo, choice}
-use Rattle.model.proofs.SumLaws.{odd-cong, count-cong, none-some}
-use Rattle.model.proofs.CountLaws.{count-parity, count-beyond}
+use Rattle.model.proofs.SumLaws.{odd-cong, count-cong}
+use Rattle.model.proofs.CountLaws.{count-parity}
 use Rattle.model.proofs.Bits.{eqb-bit}
 use Rattle.theory.proofs.MarksAside.{unmarked-inside}
 use Rattle.decoder.proofs.TreeLabelLaws.{names-labels}
 use Rattle.decoder.specs.TreeLabels.{Names}
 use Rattle.decoder.specs.Tallies.{Tallied, Tallies}
-use Rattle.decoder.specs.Boundaries.{exposedUpTo, Boundable, Boundaries}
+use Rattle.decoder.specs.Exposures.{Exposures, exposedUpTo}
 use Rattle.decoder.proofs.Tallying.{tally-bound}
 use Rattle.decoder.specs.Choices.{oddAt, sizeAt, lesser, leastUpTo, Sized, Choosable, chosenCluster}
 
@@ -42,31 +41,17 @@ tally-odd B l l′ syndrome counts same t a h =
     ∙ count-parity (B .vertices) (λ v. ones syndrome v && within l a v)
     ∙ odd-cong (B .vertices) (λ v. ones syndrome v && within l a v) (λ v. ones syndrome v && within l′ a v) (λ v i. ap (λ x. ones syndrome v && eqb x a) (same .at v i))
 
--- a vertex beyond the board touches no edge
-beyond : {n m : ℕ} {ends : List ℕ} (s : List ℕ) → EndsWithin n m ends → (v : ℕ) → n ≤ v → exposedUpTo m ends s v ≡ false
-beyond {n} {m} {ends} s w v h =
-    none-some m (λ e. touches (unmarked vertexLimit 0 ends) e v && not (full s e))
-    (λ e l. rw (
-      ne-eqb (getD ends (2 * e) 0) v (λ q. omega (arith, w .first-in-range e l)),
-      ne-eqb (getD ends (2 * e + 1) 0) v (λ q. omega (arith, w .second-in-range e l)),
-    ))
-
 -- the count of exposed vertices is the boundary size
-pub counted-boundary : (n : ℕ) (ends s l l′ sizes : List ℕ) → EndsWithin n (length s) ends → Agree n l l′ → Boundaries l ends s sizes
-    → (a : ℕ) → a < vertexLimit → sizeAt sizes a ≡ boundary (unmarked n (length s) ends) s l′ a
+pub tally-boundary : (n m : ℕ) (ends s l l′ marks counts : List ℕ) → n ≤ vertexLimit → Agree n l l′ → Exposures m ends s marks → Tallies n l (take n marks) counts
+    → (a : ℕ) → a < vertexLimit → sizeAt counts a ≡ boundary (unmarked n m ends) s l′ a
 unfolding boundary exposed
-counted-boundary n ends s l l′ sizes w same b a h =
-    b .counts .at a h
-    ∙ count-beyond n vertexLimit (λ v. ones (b .exposed) v && within l a v) (w .vertex-limit) (λ v m k. rw (is v k, beyond s w v m))
-    ∙ count-cong n (λ v. ones (b .exposed) v && within l a v) _ each
+tally-boundary n m ends s l l′ marks counts few same e t a h =
+    t .at a h ∙ count-cong n (λ v. ones (take n marks) v && within l a v) _ each
   where
-    is : (v : ℕ) → v < vertexLimit → ones (b .exposed) v ≡ exposedUpTo (length s) ends s v
-    is v k = ap (λ x. eqb x 1) (b .marks .at v k) ∙ eqb-bit (exposedUpTo (length s) ends s v)
-
-    each : (v : ℕ) → v < n → (ones (b .exposed) v && within l a v) ≡ (within l′ a v && exposed (unmarked n (length s) ends) s v)
+    each : (v : ℕ) → v < n → (ones (take n marks) v && within l a v) ≡ (within l′ a v && exposed (unmarked n m ends) s v)
     each v i =
-        rw (is v (omega (arith, w .vertex-limit)), same .at v i, length-replicate {A = ℕ} (length s) 0)
-        (and-comm (exposedUpTo (length s) ends s v) (within l′ a v))
+        rw (getD-take n marks v 0 i, e .at v (omega arith), eqb-bit (exposedUpTo m ends s v), same .at v i, length-replicate {A = ℕ} m 0)
+        (and-comm (exposedUpTo m ends s v) (within l′ a v))
 
 -- The choice
 
@@ -122,11 +107,14 @@ least-is-choice B s l S lit sizes few p q =
 
 -- The figures of the clusters on a lent board
 
+pub taken-length : {n m : ℕ} {ends s marks : List ℕ} → n ≤ vertexLimit → Exposures m ends s marks → n ≡ length (take n marks)
+taken-length {n} {marks = marks} few e = omega (arith, length-take n marks, e .long)
+
 pub names-tallied : {n k : ℕ} {p labels : List ℕ} → n ≤ vertexLimit → n ≡ k → Names n p labels → Tallied k labels
 names-tallied few q names = record { few = omega arith; inside = λ v h. omega (arith, names .each v (omega arith) .below) }
 
-pub boundaries-sized : {n : ℕ} {labels ends s sizes : List ℕ} → n ≤ vertexLimit → Boundaries labels ends s sizes → Sized n sizes
-boundaries-sized few b = record { few = few; small = λ a h. tally-bound (b .counts) a (omega arith) }
+pub tallies-sized : {n k : ℕ} {labels members sizes : List ℕ} → n ≤ vertexLimit → n ≡ k → Tallies k labels members sizes → Sized n sizes
+tallies-sized few q t = record { few = few; small = λ a h. omega (arith, tally-bound t a (omega arith)) }
 
 module _ (n : ℕ) (p ends syndrome s : List ℕ) (w : Choosable n p ends syndrome s) where
   abbrev board : Board
@@ -136,12 +124,11 @@ module _ (n : ℕ) (p ends syndrome s : List ℕ) (w : Choosable n p ends syndro
   unfolding clusters
   agrees names = record { at = names-labels board (full s) (unmarked-inside (w .lent)) (w .mirrors) names }
 
-  pub boundable : {labels : List ℕ} → Names n p labels → Boundable labels ends s
-  boundable names = record { vertices = n; tallied = names-tallied (w .lent .vertex-limit) refl names; lent = w .lent }
-
-  pub chooses : {labels lit sizes : List ℕ} → Names n p labels → Tallies (length syndrome) labels syndrome lit → Boundaries labels ends s sizes
+  pub chooses : {labels lit marks sizes : List ℕ} → Names n p labels → Tallies (length syndrome) labels syndrome lit → Exposures (length s) ends s marks
+      → Tallies (length (take n marks)) labels (take n marks) sizes
       → leastUpTo n (oddAt lit) (sizeAt sizes) ≡ chosenCluster n ends syndrome s
-  chooses {labels} {lit} {sizes} names odds b =
+  chooses {labels} {lit} {marks} {sizes} names odds e bounds =
       least-is-choice board s (clusters board s) (ones syndrome) lit sizes (w .lent .vertex-limit)
       (tally-odd board labels (clusters board s) syndrome lit (agrees names) (subst (λ k. Tallies k labels syndrome lit) (w .lit) odds))
-      (counted-boundary n ends s labels (clusters board s) sizes (w .lent) (agrees names) b)
+      (tally-boundary n (length s) ends s labels (clusters board s) marks sizes (w .lent .vertex-limit) (agrees names) e
+      (subst (λ k. Tallies k labels (take n marks) sizes) (sym (taken-length (w .lent .vertex-limit) e)) bounds))

@@ -1,5 +1,5 @@
 pub mod Tallies
-pub mod Boundaries
+pub mod Exposures
 pub mod TreeLabels
 pub mod Choices
 pub mod Gains

@@ -1,4 +1,4 @@
-use crate::boundary::boundaries;
+use crate::exposure::exposure;
 use crate::labels::labels_of;
 use crate::tally::tally;
 use model::limits::VERTICES;
@@ -54,6 +54,7 @@ pub(crate) fn choose(
 {
     let labels = labels_of(vertices, parent);
     let lit = tally(&labels, syndrome);
-    let boundary = boundaries(&labels, ends, support);
+    let exposed = exposure(ends, support);
+    let boundary = tally(&labels, &exposed[..vertices]);
     least(vertices, &lit, &boundary)
 }

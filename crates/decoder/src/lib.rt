@@ -1,7 +1,7 @@
 // Decoding: tests, the parts of the whole board, growth on the cluster book, and peeling.
 mod book;
-mod boundary;
 mod choice;
+mod exposure;
 mod growth;
 mod key;
 mod labels;

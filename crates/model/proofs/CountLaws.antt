@@ -108,12 +108,3 @@ count-parity (suc n) f = go (f n) (oddUpTo n f) (count-parity n f)
     go true false p = eq-eqb ((countUpTo n f + 1) % 2) 1 (omega (arith, eqb-false (countUpTo n f % 2) 1 p))
     go false true p = eq-eqb ((countUpTo n f + 0) % 2) 1 (omega (arith, eqb-true (countUpTo n f % 2) 1 p))
     go false false p = ne-eqb ((countUpTo n f + 0) % 2) 1 (λ q. omega (arith, eqb-false (countUpTo n f % 2) 1 p))
-
--- nothing from n on is counted
-pub count-beyond : (n k : ℕ) (f : Set) → n ≤ k → ((i : ℕ) → n ≤ i → i < k → f i ≡ false) → countUpTo k f ≡ countUpTo n f
-unfolding countUpTo
-count-beyond n zero f h out = let z : n ≡ 0 = omega arith in rw z
-count-beyond n (suc k) f h out =
-    below-suc (suc k) n (omega arith)
-    (λ l. rw (count-beyond n k f (omega arith) (λ i m j. out i m (omega arith)), out k (omega arith) (le-refl _)) (omega arith))
-    (λ q. rw q)

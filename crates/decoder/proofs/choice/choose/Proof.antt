@@ -1,7 +1,8 @@
 -- `choose` meets its contract. Assumes nothing.
 use mathlib.Core.Path.{sym, _∙_}
+use Rattle.model.proofs.EndLaws.{within-limit}
+use Rattle.decoder.proofs.ChoiceLaws.{taken-length, names-tallied, tallies-sized, chooses}
 use borrow.Author.Needs.{needs}
-use Rattle.decoder.proofs.ChoiceLaws.{names-tallied, boundaries-sized, boundable, chooses}
 use Rattle.decoder.proofs.choice.choose.Statement.{statement}
 use Rattle.decoder.proofs.choice.choose.Tie as tie
 
@@ -10,28 +11,36 @@ labels-of-requires c κs = search needs
 
 tally-requires : tie.Need-tally-requires
 tally-requires c κs =
-    let named = c .before in
-    let pre = named .before .before .before .before .pre in
-    names-tallied (pre .lent .vertex-limit) (sym (pre .lit)) (named .labels-of .ensures)
+    let pre = c .before .before .before .before .before .pre in
+    names-tallied (pre .lent .vertex-limit) (sym (pre .lit)) (c .before .labels-of .ensures)
 
-boundaries-requires : tie.Need-boundaries-requires
-boundaries-requires c κs =
-    let named = c .before .before .before in
-    boundable _ _ _ _ _ (named .before .before .before .before .pre) (named .labels-of .ensures)
+exposure-requires : tie.Need-exposure-requires
+exposure-requires c κs = within-limit (c .before .before .before .before .before .before .pre .lent)
+
+array-share-prefix-exposed : tie.Need-array-share-prefix-exposed
+array-share-prefix-exposed c = search needs
+
+slice-aggregate-tally : tie.Need-slice-aggregate-tally
+slice-aggregate-tally c =
+    let pre = c .before .before .before .before .before .before .before .before .before .pre in
+    taken-length (pre .lent .vertex-limit) (c .before .before .exposure .ensures)
+
+tally-requires-2 : tie.Need-tally-requires-2
+tally-requires-2 c κs =
+    let few = c .before .before .before .before .before .before .before .before .before .pre .lent .vertex-limit in
+    names-tallied few (taken-length few (c .before .before .exposure .ensures)) (c .before .before .before .before .before .labels-of .ensures)
 
 least-requires : tie.Need-least-requires
 least-requires c κs =
-    let bounded = c .before .before in
-    let named = bounded .before .before .before .before in
-    boundaries-sized (named .before .before .before .before .pre .lent .vertex-limit) (bounded .boundaries .ensures)
+    let few = c .before .before .before .before .before .before .before .before .before .before .before .before .pre .lent .vertex-limit in
+    tallies-sized few (taken-length few (c .before .before .before .before .before .exposure .ensures)) (c .before .before .tally2 .ensures)
 
 returns : tie.Need-returns
 returns c =
-    let bounded = c .before .before .before in
-    let tallied = bounded .before .before in
-    let named = tallied .before .before in
+    let marked = c .before .before .before .before .before .before in
+    let named = marked .before .before .before in
     c .least .ensures
-    ∙ chooses _ _ _ _ _ (named .before .before .before .before .pre) (named .labels-of .ensures) (tallied .tally .ensures) (bounded .boundaries .ensures)
+    ∙ chooses _ _ _ _ _ (named .before .before .before .before .pre) (named .labels-of .ensures) (marked .before .tally .ensures) (marked .exposure .ensures) (c .before .before .before .tally2 .ensures)
 
 pub choose-spec : {M : Type 1} → statement M
 choose-spec =
@@ -39,6 +48,9 @@ choose-spec =
     (tie.spec
     labels-of-requires
     tally-requires
-    boundaries-requires
+    exposure-requires
+    array-share-prefix-exposed
+    slice-aggregate-tally
+    tally-requires-2
     least-requires
     returns)
