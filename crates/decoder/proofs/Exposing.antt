@@ -17,7 +17,7 @@ unfolding someUpTo
 expose-none ends s n p = record { long = length-replicate n 0 ∙ p; at = λ v h. getD-replicate n v 0 0 (omega arith) }
 
 -- both ends marked, of an edge that isn't full
-pub expose-both : (k : ℕ) (ends s l : List ℕ) → getD ends (2 * k) 0 < vertexLimit → getD ends (2 * k + 1) 0 < vertexLimit → full s k ≡ false → Exposures k ends s l → Exposures (suc k) ends s (set (set l (getD ends (2 * k) 0) 1) (getD ends (2 * k + 1) 0) 1)
+expose-both : (k : ℕ) (ends s l : List ℕ) → getD ends (2 * k) 0 < vertexLimit → getD ends (2 * k + 1) 0 < vertexLimit → full s k ≡ false → Exposures k ends s l → Exposures (suc k) ends s (set (set l (getD ends (2 * k) 0) 1) (getD ends (2 * k + 1) 0) 1)
 unfolding someUpTo
 expose-both k ends s l h₁ h₂ short before = record {
   long = simp length-set (before .long);
@@ -40,6 +40,12 @@ expose-both k ends s l h₁ h₂ short before = record {
     go false true false = refl
     go false false true = refl
     go false false false = refl
+
+-- the same, of the two ends and of the marks that are left after each
+pub expose-ends : (k : ℕ) (ends s l : List ℕ) {l₁ l₂ : List ℕ} {a b : ℕ} → a ≡ getD ends (2 * k) 0 → b ≡ getD ends (2 * k + 1) 0
+    → getD ends (2 * k) 0 < vertexLimit → getD ends (2 * k + 1) 0 < vertexLimit → full s k ≡ false
+    → l₁ ≡ set l a 1 → l₂ ≡ set l₁ b 1 → Exposures k ends s l → Exposures (suc k) ends s l₂
+expose-ends k ends s l p q h₁ h₂ short m₁ m₂ before = rw (m₂, m₁, p, q) (expose-both k ends s l h₁ h₂ short before)
 
 -- a full edge marks nothing
 pub expose-full : (k : ℕ) (ends s l : List ℕ) → full s k ≡ true → Exposures k ends s l → Exposures (suc k) ends s l

@@ -8,7 +8,7 @@ use lib.ListN.{length, length-set}
 use borrow.Author.Needs.{needs}
 use borrow.Author.Tests.{not-true, not-false}
 use Rattle.model.specs.Board.{vertexLimit}
-use Rattle.decoder.proofs.Exposing.{expose-none, expose-both, expose-full}
+use Rattle.decoder.proofs.Exposing.{expose-none, expose-ends, expose-full}
 use Rattle.decoder.specs.Exposures.{Exposures}
 use Rattle.decoder.proofs.exposure.exposure.Statement.{statement}
 use Rattle.decoder.proofs.exposure.exposure.Tie as tie
@@ -74,9 +74,9 @@ loop-again c =
       search needs,
       rw add-one
           (⊎-elim
-          (λ w. rw (w .7, w .6 .ensures, w .4 .ensures, w .1 .ensures, w .2 .ensures)
-          (expose-both e _ _ _ (inside .first-in-range e (test .loop-test .taken)) (inside .second-in-range e (test .loop-test .taken))
-          (sym (tested .is-full .ensures) ∙ not-true _ (w .0 .taken)) (at .loop .inv .1)))
+          (λ w. rw (w .7)
+          (expose-ends e _ _ _ (w .1 .ensures) (w .2 .ensures) (inside .first-in-range e (test .loop-test .taken)) (inside .second-in-range e (test .loop-test .taken))
+          (sym (tested .is-full .ensures) ∙ not-true _ (w .0 .taken)) (w .4 .ensures) (w .6 .ensures) (at .loop .inv .1)))
           (λ w. rw (w .1) (expose-full e _ _ _ (sym (tested .is-full .ensures) ∙ not-false _ (w .0 .left)) (at .loop .inv .1)))
           (c .if1 .came)),
     )
