@@ -1,35 +1,22 @@
 /* The surface code table: a proved Union-Find decoder for one error kind on a graph with lost edges.
  *
  * `rt staticlib table` proves the calls below and writes them to target/staticlib/libtable.a. What
- * each answers and writes is document 01's, and is proved of every input, refused ones too.
+ * each answers and writes is told in docs/RULES.md, and is proved of every input, refused ones too.
  *
  * A buffer is a pointer and a count of elements. The calls test everything that they are lent, the
  * counts too. What a caller owes is what no call can test:
  *   - each pointer is valid, and aligned, for so many elements, and is not null where its count is 0;
  *   - a buffer that is written overlaps no other buffer of the same call;
- *   - nobody else writes to any of the buffers until the call returns.
+ *   - nobody else writes to any of the buffers until the call returns, or reads one that is written;
+ *   - the stack has room for the call (SURFACE_STACK_.. below).
+ *
+ * Threads: a call keeps nothing from one call to the next, allocates nothing and looks at nothing but
+ * what it is lent, so any number of threads may make calls at once. Buffers that are only read may be
+ * lent to several of them at the same time.
  *
  * A board has `vertices` vertices, numbered from 0, and edges numbered from 0: two `ends` for each
  * edge, and one of `marks`, 0 to 3. `syndrome` has a byte for each vertex and `loss` a byte for each
  * edge, each 0 or 1.
- *
- * A call that refuses has written nothing. The smallest number that applies is returned, then the
- * smallest place:
- *   1         vertex count 0 or above 1,024
- *   2         odd count of ends, or above 8,192
- *   3         another buffer has the wrong count
- *   4, edge   an end at or above the vertex count
- *   5, edge   equal ends
- *   6, edge   mark above 3
- *   7, vertex syndrome byte above 1
- *   8, edge   loss byte above 1
- *   9, edge   handed-in byte above 1
- *  10, vertex no correction: the smallest vertex of all odd parts; surface_decode and surface_verdict
- *            alone give it, where nothing else is refused
- *  11, side   torus side outside 2 to 32
- *  12         text to be read or written above 65,536 bytes
- *  13, line   first malformed line, from 1
- *  14         writer's buffer shorter than the text
  */
 #ifndef SURFACE_TABLE_H
 #define SURFACE_TABLE_H
@@ -41,14 +28,20 @@
 extern "C" {
 #endif
 
-/* The counts of the buffers that surface_read fills. */
-#define SURFACE_ENDS 8192
-#define SURFACE_MARKS 4096
-#define SURFACE_SYNDROME 1024
-#define SURFACE_LOSS 4096
+/* Raised by one whenever a call changes: its parameters, its tests or its answers, or a call more or
+ * less. Programs and library must be built from one version; nothing else keeps them together. */
+#define SURFACE_VERSION 1
 
-/* The largest number of bytes of a text. */
+/* The largest number of vertices and of edges of a board, and of bytes of a text. */
+#define SURFACE_VERTICES 1024
+#define SURFACE_EDGES 4096
 #define SURFACE_TEXT 65536
+
+/* The counts of the buffers that surface_read fills. */
+#define SURFACE_ENDS (2 * SURFACE_EDGES)
+#define SURFACE_MARKS SURFACE_EDGES
+#define SURFACE_SYNDROME SURFACE_VERTICES
+#define SURFACE_LOSS SURFACE_EDGES
 
 /* Every call returns 64 bits. Bits 0 to 7 are the refusal's number, or 0 where nothing is refused. */
 static inline unsigned surface_refusal(uint64_t returned) { return (unsigned)(returned & 0xff); }
@@ -59,6 +52,61 @@ static inline uint64_t surface_place(uint64_t returned) { return returned >> 8; 
 /* Otherwise bits 8 to 39 are the first value of the answer and bits 40 to 63 the second. */
 static inline uint32_t surface_first(uint64_t returned) { return (uint32_t)(returned >> 8); }
 static inline uint32_t surface_second(uint64_t returned) { return (uint32_t)(returned >> 40); }
+
+/* The refusal's numbers, each with its place. A call that refuses has written nothing. Of all the
+ * rules that are broken, the one with the smallest number is returned, at its smallest place;
+ * surface_torus alone tests 11 before 3. */
+enum surface_refusal_number {
+    SURFACE_NOT_REFUSED = 0,
+    SURFACE_REFUSED_VERTEX_COUNT = 1,    /* place 0 */
+    SURFACE_REFUSED_END_COUNT = 2,       /* place 0; of a board that is given */
+    SURFACE_REFUSED_BUFFER_LENGTH = 3,   /* place 0 */
+    SURFACE_REFUSED_END_RANGE = 4,       /* the edge */
+    SURFACE_REFUSED_EQUAL_ENDS = 5,      /* the edge */
+    SURFACE_REFUSED_MARK_RANGE = 6,      /* the edge */
+    SURFACE_REFUSED_SYNDROME_BYTE = 7,   /* the vertex */
+    SURFACE_REFUSED_LOSS_BYTE = 8,       /* the edge */
+    SURFACE_REFUSED_HANDED_BYTE = 9,     /* the edge */
+    SURFACE_REFUSED_NO_CORRECTION = 10,  /* the vertex; surface_decode and surface_verdict alone give
+                                            it, where nothing else is refused */
+    SURFACE_REFUSED_TORUS_SIDE = 11,     /* the side */
+    SURFACE_REFUSED_TEXT_LENGTH = 12,    /* place 0 */
+    SURFACE_REFUSED_MALFORMED_LINE = 13, /* the line, from 1; the first such */
+    SURFACE_REFUSED_TEXT_BUFFER = 14     /* place 0 */
+};
+
+/* What a refusal's number says; where it speaks of the edge, the vertex, the side or the line, the
+ * place tells which. The string lasts as long as the program. */
+static inline const char *surface_refusal_text(unsigned number)
+{
+    switch (number) {
+    case SURFACE_NOT_REFUSED: return "nothing is refused";
+    case SURFACE_REFUSED_VERTEX_COUNT: return "the vertex count is 0 or above 1,024";
+    case SURFACE_REFUSED_END_COUNT: return "the count of ends is odd or above 8,192";
+    case SURFACE_REFUSED_BUFFER_LENGTH: return "a lent buffer has the wrong length";
+    case SURFACE_REFUSED_END_RANGE: return "the edge has an end at or above the vertex count";
+    case SURFACE_REFUSED_EQUAL_ENDS: return "the edge has equal ends";
+    case SURFACE_REFUSED_MARK_RANGE: return "the edge has a mark above 3";
+    case SURFACE_REFUSED_SYNDROME_BYTE: return "the vertex has a syndrome byte above 1";
+    case SURFACE_REFUSED_LOSS_BYTE: return "the edge has a loss byte above 1";
+    case SURFACE_REFUSED_HANDED_BYTE: return "the edge has a handed-in byte above 1";
+    case SURFACE_REFUSED_NO_CORRECTION: return "no correction: the vertex is the smallest of all odd parts";
+    case SURFACE_REFUSED_TORUS_SIDE: return "the side is outside 2 to 32";
+    case SURFACE_REFUSED_TEXT_LENGTH: return "the text has more than 65,536 bytes";
+    case SURFACE_REFUSED_MALFORMED_LINE: return "the line is malformed";
+    case SURFACE_REFUSED_TEXT_BUFFER: return "the buffer is shorter than the text";
+    default: return "no refusal has this number";
+    }
+}
+/* Bytes of stack that each call needs: what was measured, rounded up to a multiple of 4,096, and 4,096
+ * more for memcpy and memset, all that the library asks of the C library. The calls of one thread don't
+ * nest, so the largest of those that it makes is enough. */
+#define SURFACE_STACK_DECODE 45056
+#define SURFACE_STACK_VERDICT 53248
+#define SURFACE_STACK_DISTANCE 53248
+#define SURFACE_STACK_TORUS 8192
+#define SURFACE_STACK_READ 32768
+#define SURFACE_STACK_WRITE 98304
 
 /* Decodes. Fills `support` with 0 to 2 half-edges and `correction` with 0 or 1, a byte for each edge.
  * First value: the growths. Second: the number of correction edges. */

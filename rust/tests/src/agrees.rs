@@ -12,7 +12,7 @@ use reference::text::{self, write_into};
 use reference::torus::torus_into;
 use reference::verdict::{self as plain_verdict, Verdict as PlainVerdict};
 use reference::{Key, Refusal as PlainRefusal};
-use table::{Built, Decoded, Distance, Reading, Refusal, Verdict, Written};
+use table::{Counts, Refusal, Verdict};
 
 use crate::guarded::Guarded;
 
@@ -71,7 +71,7 @@ impl LentSheet<'_> {
 
 /// Whether the library refuses as the plain decoder does.
 fn is_refusal(refusal: Refusal, plain: PlainRefusal) -> bool {
-    (refusal.number, refusal.place) == (plain.number, plain.place)
+    (refusal.number(), refusal.place()) == (plain.number, plain.place)
 }
 
 /// Decoding with buffers of these lengths to fill.
@@ -84,12 +84,12 @@ pub fn decode_with(sheet: &Sheet, support: usize, correction: usize) -> Result<K
     lent.returned();
     let after = (support_bytes.returned(), correction_bytes.returned());
     match (answer, decode_into(sheet, support, correction)) {
-        (Decoded::Key { growths, edges }, Ok(key)) => {
+        (Ok(table::Key { growths, edges }), Ok(key)) => {
             assert_eq!((growths, edges), (key.growths, key.edges()), "{sheet:?}");
             assert_eq!(after, (key.support.clone(), key.correction.clone()), "{sheet:?}");
             Ok(key)
         }
-        (Decoded::Refused(refusal), Err(plain)) => {
+        (Err(refusal), Err(plain)) => {
             assert!(is_refusal(refusal, plain), "{refusal:?}, not {plain:?}: {sheet:?}");
             assert_eq!(after, before, "a refusal wrote: {sheet:?}");
             Err(refusal)
@@ -105,7 +105,7 @@ pub fn decode(sheet: &Sheet) -> Result<Key, Refusal> {
 }
 
 /// The verdict on a handed-in set.
-pub fn verdict(sheet: &Sheet, handed: &[u8]) -> Verdict {
+pub fn verdict(sheet: &Sheet, handed: &[u8]) -> Result<Verdict, Refusal> {
     let mut lent = LentSheet::new(sheet);
     let mut handed_bytes = Guarded::new(handed, BYTE_GUARD);
     let answer = table::verdict(lent.lent(), handed_bytes.lent());
@@ -113,10 +113,10 @@ pub fn verdict(sheet: &Sheet, handed: &[u8]) -> Verdict {
     handed_bytes.returned_unchanged(handed);
     let plain = plain_verdict::verdict(sheet, handed);
     let agrees = match (answer, plain) {
-        (Verdict::Off(vertex), Ok(PlainVerdict::Off(plain))) => vertex == plain,
-        (Verdict::Same, Ok(PlainVerdict::Same)) => true,
-        (Verdict::Wound(marks), Ok(PlainVerdict::Wound(plain))) => marks == plain,
-        (Verdict::Refused(refusal), Err(plain)) => is_refusal(refusal, plain),
+        (Ok(Verdict::Off(vertex)), Ok(PlainVerdict::Off(plain))) => vertex == plain,
+        (Ok(Verdict::Same), Ok(PlainVerdict::Same)) => true,
+        (Ok(Verdict::Wound(marks)), Ok(PlainVerdict::Wound(plain))) => marks == plain,
+        (Err(refusal), Err(plain)) => is_refusal(refusal, plain),
         _ => false,
     };
     assert!(agrees, "{answer:?}, not {plain:?}: {handed:?} on {sheet:?}");
@@ -135,17 +135,17 @@ pub fn distance_with(board: &Board, shown: usize) -> Result<Option<usize>, Refus
     marks.returned_unchanged(&board.marks);
     let after = shown_bytes.returned();
     match (answer, distance_into(board, shown)) {
-        (Distance::Fewest(fewest), Ok(Some(plain))) => {
+        (Ok(Some(fewest)), Ok(Some(plain))) => {
             assert_eq!(fewest, plain, "{board:?}");
             assert!(after.iter().all(|&byte| byte <= 1), "{after:?} on {board:?}");
             assert!(size(&after) == fewest && board.winds(&after), "{after:?} on {board:?}");
             Ok(Some(fewest))
         }
-        (Distance::Nothing, Ok(None)) => {
+        (Ok(None), Ok(None)) => {
             assert_eq!(after, vec![0; shown], "{board:?}");
             Ok(None)
         }
-        (Distance::Refused(refusal), Err(plain)) => {
+        (Err(refusal), Err(plain)) => {
             assert!(is_refusal(refusal, plain), "{refusal:?}, not {plain:?}: {board:?}");
             assert_eq!(after, before, "a refusal wrote: {board:?}");
             Err(refusal)
@@ -167,12 +167,12 @@ pub fn torus_with(side: u32, ends: usize, marks: usize) -> Result<Board, Refusal
     let answer = table::torus(side, ends_filled.lent(), marks_filled.lent());
     let after = (ends_filled.returned(), marks_filled.returned());
     match (answer, torus_into(side, ends, marks)) {
-        (Built::Vertices(vertices), Ok(board)) => {
+        (Ok(vertices), Ok(board)) => {
             assert_eq!(vertices, board.vertices, "side {side}");
             assert_eq!(after, (board.ends.clone(), board.marks.clone()), "side {side}");
             Ok(board)
         }
-        (Built::Refused(refusal), Err(plain)) => {
+        (Err(refusal), Err(plain)) => {
             assert!(is_refusal(refusal, plain), "{refusal:?}, not {plain:?}: side {side}");
             assert_eq!(after, before, "a refusal wrote: side {side}");
             Err(refusal)
@@ -245,13 +245,13 @@ pub fn read_with(input: &[u8], lengths: Lengths) -> Result<Sheet, Refusal> {
     let plain = refusal::reader(ends, marks, syndrome, loss).and_then(|()| text::read(input));
     let shown = String::from_utf8_lossy(input);
     match (answer, plain) {
-        (Reading::Counts { vertices, edges }, Ok(sheet)) => {
+        (Ok(Counts { vertices, edges }), Ok(sheet)) => {
             let counts = (sheet.board.vertices, sheet.board.edges());
             assert_eq!((vertices, edges), counts, "{shown:?}");
             assert!(after == before.with(&sheet), "other contents than the text's: {shown:?}");
             Ok(sheet)
         }
-        (Reading::Refused(refusal), Err(plain)) => {
+        (Err(refusal), Err(plain)) => {
             assert!(is_refusal(refusal, plain), "{refusal:?}, not {plain:?}: {shown:?}");
             assert!(after == before, "a refusal wrote: {shown:?}");
             Err(refusal)
@@ -265,8 +265,7 @@ pub fn read_with(input: &[u8], lengths: Lengths) -> Result<Sheet, Refusal> {
 pub fn read(input: &[u8]) -> Result<Sheet, Refusal> {
     let answer = read_with(input, Lengths::RIGHT);
     if input.len() <= text::TEXT_LIMIT {
-        let malformed =
-            first_malformed_line(input).map(|line| Refusal { number: 13, place: line as u64 });
+        let malformed = first_malformed_line(input).map(Refusal::MalformedLine);
         assert_eq!(answer.clone().err(), malformed, "{:?}", String::from_utf8_lossy(input));
     }
     answer
@@ -281,13 +280,13 @@ pub fn write_with(sheet: &Sheet, length: usize) -> Result<Vec<u8>, Refusal> {
     lent.returned();
     let after = text_bytes.returned();
     match (answer, write_into(sheet, length)) {
-        (Written::Bytes(bytes), Ok(text)) => {
+        (Ok(bytes), Ok(text)) => {
             assert_eq!(bytes, text.len(), "{sheet:?}");
             assert_eq!(after[..bytes], text, "{sheet:?}");
             assert_eq!(after[bytes..], before[bytes..], "a byte after the text: {sheet:?}");
             Ok(text)
         }
-        (Written::Refused(refusal), Err(plain)) => {
+        (Err(refusal), Err(plain)) => {
             assert!(is_refusal(refusal, plain), "{refusal:?}, not {plain:?}: {sheet:?}");
             assert_eq!(after, before, "a refusal wrote: {sheet:?}");
             Err(refusal)

@@ -1,7 +1,6 @@
 //! The library's calls on the plain decoder's types, compared with nothing.
 
 use reference::{Board, Key, Refusal, Sheet};
-use table::{Decoded, Distance};
 
 fn lent(board: &Board) -> table::Board<'_> {
     table::Board { vertices: board.vertices, ends: &board.ends, marks: &board.marks }
@@ -14,12 +13,12 @@ pub fn decode(sheet: &Sheet) -> Result<Key, Refusal> {
     let lent =
         table::Sheet { board: lent(&sheet.board), syndrome: &sheet.syndrome, loss: &sheet.loss };
     match table::decode(lent, &mut support, &mut correction) {
-        Decoded::Key { growths, edges } => {
+        Ok(table::Key { growths, edges }) => {
             let key = Key { growths, support, correction };
             assert_eq!(key.edges(), edges, "another count than was written: {sheet:?}");
             Ok(key)
         }
-        Decoded::Refused(table::Refusal { number, place }) => Err(Refusal { number, place }),
+        Err(refusal) => Err(Refusal { number: refusal.number(), place: refusal.place() }),
     }
 }
 
@@ -27,8 +26,7 @@ pub fn decode(sheet: &Sheet) -> Result<Key, Refusal> {
 pub fn distance(board: &Board) -> (Option<usize>, Vec<u8>) {
     let mut shown = vec![0; board.edges()];
     match table::distance(lent(board), &mut shown) {
-        Distance::Fewest(fewest) => (Some(fewest), shown),
-        Distance::Nothing => (None, shown),
-        Distance::Refused(refusal) => panic!("{refusal}: {board:?}"),
+        Ok(fewest) => (fewest, shown),
+        Err(refusal) => panic!("{refusal}: {board:?}"),
     }
 }

@@ -4,6 +4,7 @@ use reference::board::{Board, Sheet};
 use reference::generators::{crowd, path, star};
 use reference::torus::torus;
 use reference::{Key, Random};
+use table::Refusal;
 use table_tests::agrees;
 
 fn key(board: Board, lit: &[usize], lost: &[usize]) -> Key {
@@ -36,7 +37,7 @@ fn single_vertices() {
     let alone = Board::new(1024, &[]);
     assert_eq!(key(alone.clone(), &[], &[]).growths, 0);
     let refusal = agrees::decode(&Sheet::new(alone, &[1023], &[])).expect_err("an odd part");
-    assert_eq!((refusal.number, refusal.place), (10, 1023));
+    assert_eq!(refusal, Refusal::NoCorrection(1023));
 }
 
 #[test]

@@ -94,7 +94,7 @@ const MISPLACED: [(usize, &str, usize); 33] = [
 /// Reads the text and gives the number of its first malformed line.
 fn malformed_line(text: &[u8]) -> usize {
     match agrees::read(text) {
-        Err(Refusal { number: 13, place }) => place as usize,
+        Err(Refusal::MalformedLine(line)) => line,
         answer => panic!("{answer:?}: {:?}", String::from_utf8_lossy(text)),
     }
 }
@@ -254,7 +254,7 @@ fn largest_line_number() {
         }
     }
     let longer = [good, b"\n".repeat(room + 1)].concat();
-    assert_eq!(agrees::read(&longer), Err(Refusal { number: 12, place: 0 }));
+    assert_eq!(agrees::read(&longer), Err(Refusal::TextLength));
 }
 
 #[test]
@@ -271,7 +271,7 @@ fn random_texts_damaged() {
         let damage = [damage::anywhere, damage::any_line][round / 20 % 2];
         match agrees::read(&damage(&mut random, &text)) {
             Ok(_) => read += 1,
-            Err(refusal) => places.push(refusal.place),
+            Err(refusal) => places.push(refusal.place()),
         }
     }
     let among =

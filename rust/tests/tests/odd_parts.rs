@@ -1,24 +1,22 @@
 //! Document 02, K2: number 10 shows the smallest vertex of all odd parts, in decoding and in the
 //! verdict alike.
 
+use reference::Random;
 use reference::board::{Board, Sheet, members};
 use reference::components::components;
 use reference::generators::{Kind, any_syndrome, late_smallest, path};
-use reference::{Random, refusal::NO_CORRECTION};
-use table::Verdict;
+use table::Refusal;
 use table_tests::agrees;
 
 /// The vertex that number 10 shows; none where there is a correction.
 fn shown(sheet: &Sheet) -> Option<usize> {
     let decoded = agrees::decode(sheet).err();
-    let judged = match agrees::verdict(sheet, &vec![0; sheet.board.edges()]) {
-        Verdict::Refused(refusal) => Some(refusal),
-        _ => None,
-    };
+    let judged = agrees::verdict(sheet, &vec![0; sheet.board.edges()]).err();
     assert_eq!(decoded, judged, "decoding and the verdict: {sheet:?}");
-    let refusal = decoded?;
-    assert_eq!(refusal.number, NO_CORRECTION, "{sheet:?}");
-    Some(refusal.place as usize)
+    match decoded? {
+        Refusal::NoCorrection(vertex) => Some(vertex),
+        refusal => panic!("{refusal}: {sheet:?}"),
+    }
 }
 
 fn shown_on(board: &Board, lit: &[usize]) -> Option<usize> {

@@ -59,10 +59,10 @@ fn judge(random: &mut Random, sheet: &Sheet, near: &[u8], seen: &mut Seen) {
     let any = random.set(near.len(), 200);
     for handed in [near.to_vec(), together(near, &closed), any] {
         match agrees::verdict(sheet, &handed) {
-            Verdict::Off(_) => seen.off += 1,
-            Verdict::Same => seen.same += 1,
-            Verdict::Wound(_) => seen.wound += 1,
-            Verdict::Refused(_) => {}
+            Ok(Verdict::Off(_)) => seen.off += 1,
+            Ok(Verdict::Same) => seen.same += 1,
+            Ok(Verdict::Wound(_)) => seen.wound += 1,
+            Err(_) => {}
         }
     }
 }
@@ -95,7 +95,7 @@ fn tori_with_flips_and_losses() {
             let sheet = Sheet { board: board.clone(), syndrome, loss };
             agrees::decode(&sheet).expect("the error has the syndrome");
             let verdict = agrees::verdict(&sheet, &error);
-            assert!(matches!(verdict, Verdict::Same | Verdict::Wound(_)), "{verdict:?}");
+            assert!(matches!(verdict, Ok(Verdict::Same | Verdict::Wound(_))), "{verdict:?}");
         }
     }
 }

@@ -7,15 +7,12 @@ use table::{Refusal, Verdict};
 use table_tests::agrees::{self, Lengths};
 
 fn refused<T: std::fmt::Debug>(answer: Result<T, Refusal>) -> (u8, u64) {
-    let Refusal { number, place } = answer.expect_err("a refusal");
-    (number, place)
+    let refusal = answer.expect_err("a refusal");
+    (refusal.number(), refusal.place())
 }
 
 fn judged(sheet: &Sheet, handed: &[u8]) -> (u8, u64) {
-    match agrees::verdict(sheet, handed) {
-        Verdict::Refused(Refusal { number, place }) => (number, place),
-        verdict => panic!("{verdict:?}, no refusal"),
-    }
+    refused(agrees::verdict(sheet, handed))
 }
 
 /// All three calls that are lent a sheet refuse it alike.
@@ -36,7 +33,7 @@ fn board_refused(sheet: &Sheet) -> (u8, u64) {
 /// None of the four calls refuses.
 fn none_refuses(sheet: &Sheet) {
     agrees::decode(sheet).expect("decoding");
-    agrees::verdict(sheet, &vec![0; sheet.board.edges()]);
+    assert!(agrees::verdict(sheet, &vec![0; sheet.board.edges()]).is_ok(), "the verdict");
     agrees::distance(&sheet.board).expect("distance");
     agrees::write(sheet).expect("writing");
 }
@@ -98,7 +95,7 @@ fn broken_at(change: impl Fn(&mut Sheet, usize, bool), count: usize, number: u8)
         let mut sheet = blank(path(6));
         change(&mut sheet, place, false);
         let refusal = agrees::decode(&sheet).err();
-        assert!(refusal.is_none_or(|refusal| refusal.number == 10), "{refusal:?}");
+        assert!(matches!(refusal, None | Some(Refusal::NoCorrection(_))), "{refusal:?}");
         agrees::write(&sheet).expect("a value at its limit");
         change(&mut sheet, place, true);
         assert_eq!(sheet_refused(&sheet), (number, place as u64));
@@ -130,7 +127,7 @@ fn numbers_4_to_8() {
 #[test]
 fn number_9() {
     let sheet = Sheet::new(path(4), &[0, 3], &[]);
-    assert_eq!(agrees::verdict(&sheet, &[1, 1, 1]), Verdict::Same);
+    assert_eq!(agrees::verdict(&sheet, &[1, 1, 1]), Ok(Verdict::Same));
     assert_eq!(judged(&sheet, &[1, 2, 3]), (9, 1));
     assert_eq!(judged(&sheet, &[1, 1, 255]), (9, 2));
     let odd = Sheet::new(path(4), &[0], &[]);
@@ -250,13 +247,10 @@ fn several_rules_broken() {
             agrees::decode(&sheet).err(),
             agrees::distance(&sheet.board).err(),
             agrees::write_with(&sheet, length).err(),
-            match agrees::verdict(&sheet, &handed) {
-                Verdict::Refused(refusal) => Some(refusal),
-                _ => None,
-            },
+            agrees::verdict(&sheet, &handed).err(),
         ];
         for refusal in outcomes.into_iter().flatten() {
-            seen[usize::from(refusal.number)] += 1;
+            seen[usize::from(refusal.number())] += 1;
         }
     }
     println!("refusals by number: {seen:?}");

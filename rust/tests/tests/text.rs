@@ -63,5 +63,5 @@ fn larger_texts_damaged() {
 fn edge_count() {
     let lines = |count| [b"V\t2\n".to_vec(), b"E\t0\t1\t0\n".repeat(count)].concat();
     assert_eq!(agrees::read(&lines(4096)).map(|sheet| sheet.board.edges()), Ok(4096));
-    assert_eq!(agrees::read(&lines(4097)), Err(Refusal { number: 13, place: 4098 }));
+    assert_eq!(agrees::read(&lines(4097)), Err(Refusal::MalformedLine(4098)));
 }

@@ -1,0 +1,34 @@
+//! What the calls are lent to read, and the limits of it.
+
+/// The largest vertex count of a board, and the count of syndrome bytes that
+/// [`read`](crate::read) is lent.
+pub const VERTICES: usize = 1024;
+
+/// The largest edge count of a board, and the count of marks and of loss bytes that
+/// [`read`](crate::read) is lent; it is lent twice as many ends.
+pub const EDGES: usize = 4096;
+
+/// The largest number of bytes of a text that is read or written.
+pub const TEXT: usize = 65_536;
+
+/// A graph with numbered vertices and edges.
+#[derive(Clone, Copy, Debug, PartialEq, Eq)]
+pub struct Board<'a> {
+    /// 1 to [`VERTICES`].
+    pub vertices: usize,
+    /// Two for each edge, different and below the vertex count; at most twice [`EDGES`].
+    pub ends: &'a [u16],
+    /// One for each edge, 0 to 3: bit 0 says that it crosses line A, bit 1 line B.
+    pub marks: &'a [u8],
+}
+
+/// A board with its syndrome and its lost edges.
+#[derive(Clone, Copy, Debug, PartialEq, Eq)]
+pub struct Sheet<'a> {
+    /// The board that was drawn.
+    pub board: Board<'a>,
+    /// A byte for each vertex, 1 where it is in the syndrome, else 0.
+    pub syndrome: &'a [u8],
+    /// A byte for each edge, 1 where it is lost, else 0.
+    pub loss: &'a [u8],
+}

@@ -1,0 +1,15 @@
+//! The calls, one file each: a function of the static library on slices, and what its number says.
+
+mod decode;
+mod distance;
+mod read;
+mod torus;
+mod verdict;
+mod write;
+
+pub use decode::{Key, decode};
+pub use distance::distance;
+pub use read::{Counts, read};
+pub use torus::torus;
+pub use verdict::{Verdict, verdict};
+pub use write::write;

@@ -1,0 +1,96 @@
+//! The verdict on a handed-in set.
+
+use crate::packed::{impossible, unpack};
+use crate::{Board, Refusal, Sheet, exported};
+
+/// What [`verdict`] says of a handed-in set.
+#[derive(Clone, Copy, Debug, PartialEq, Eq)]
+#[must_use]
+pub enum Verdict {
+    /// Its syndrome differs from the one put; this is the smallest vertex where it does.
+    Off(usize),
+    /// Together with the correction the set doesn't wind.
+    Same,
+    /// Together with the correction the set winds, with this exclusive or of marks, 1 to 3.
+    Wound(u8),
+}
+
+/// Compares a handed-in set, a byte for each edge, with the correction of a sheet.
+///
+/// # Errors
+///
+/// Where there is no correction it refuses as [`decode`](crate::decode) does, with the same vertex.
+///
+/// # Examples
+///
+/// The long way round the ring winds with the correction:
+///
+/// ```
+/// use table::{Board, Refusal, Sheet, Verdict, verdict};
+///
+/// let board = Board { vertices: 4, ends: &[0, 1, 1, 2, 2, 3, 3, 0], marks: &[0, 0, 0, 1] };
+/// let sheet = Sheet { board, syndrome: &[1, 0, 0, 1], loss: &[0; 4] };
+/// assert_eq!(verdict(sheet, &[0, 0, 0, 1]), Ok(Verdict::Same));
+/// assert_eq!(verdict(sheet, &[1, 1, 1, 0]), Ok(Verdict::Wound(1)));
+/// assert_eq!(verdict(sheet, &[1, 1, 0, 0]), Ok(Verdict::Off(2)));
+///
+/// let odd = Sheet { syndrome: &[0, 0, 1, 0], ..sheet };
+/// assert_eq!(verdict(odd, &[0; 4]), Err(Refusal::NoCorrection(0)));
+/// ```
+#[must_use = "nothing is written: the answer is all there is"]
+pub fn verdict(sheet: Sheet<'_>, handed: &[u8]) -> Result<Verdict, Refusal> {
+    let Sheet { board: Board { vertices, ends, marks }, syndrome, loss } = sheet;
+    // SAFETY: each pointer is a slice's, with its length; nothing is written.
+    let returned = unsafe {
+        exported::surface_verdict(
+            vertices,
+            ends.as_ptr(),
+            ends.len(),
+            marks.as_ptr(),
+            marks.len(),
+            syndrome.as_ptr(),
+            syndrome.len(),
+            loss.as_ptr(),
+            loss.len(),
+            handed.as_ptr(),
+            handed.len(),
+        )
+    };
+    unpack_verdict(returned)
+}
+
+/// The verdict that a returned number stands for.
+fn unpack_verdict(returned: u64) -> Result<Verdict, Refusal> {
+    match unpack(returned)? {
+        (1, vertex) => Ok(Verdict::Off(vertex as usize)),
+        (2, 0) => Ok(Verdict::Same),
+        (3, marks @ 1..=3) => Ok(Verdict::Wound(marks as u8)),
+        _ => impossible(returned),
+    }
+}
+
+#[cfg(test)]
+mod tests {
+    use super::{Verdict, unpack_verdict};
+    use crate::Refusal;
+
+    #[test]
+    fn each_answer() {
+        assert_eq!(unpack_verdict(1 << 8 | 1023 << 40), Ok(Verdict::Off(1023)));
+        assert_eq!(unpack_verdict(2 << 8), Ok(Verdict::Same));
+        assert_eq!(unpack_verdict(3 << 8 | 3 << 40), Ok(Verdict::Wound(3)));
+        assert_eq!(unpack_verdict(9 | 5 << 8), Err(Refusal::HandedByte(5)));
+    }
+
+    #[test]
+    #[should_panic(expected = "returned 0x10000000400, which this call never answers")]
+    fn fourth_verdict() {
+        let _ = unpack_verdict(4 << 8 | 1 << 40);
+    }
+
+    #[test]
+    #[should_panic(expected = "returned 0x300, which this call never answers")]
+    fn wound_without_marks() {
+        let _ = unpack_verdict(3 << 8);
+    }
+}

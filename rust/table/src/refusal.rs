@@ -1,0 +1,182 @@
+//! Why a call refuses.
+
+use core::error::Error;
+use core::fmt;
+
+/// The rule that is broken, with the place where it is broken.
+///
+/// Of all the rules that a call's buffers break, the one with the smallest number is given, at its
+/// smallest place; the torus builder alone tests 11 before 3. A call that refuses has written
+/// nothing. What is displayed is a sentence with the place.
+///
+/// # Examples
+///
+/// ```
+/// use table::{Refusal, torus};
+///
+/// let refusal = torus(33, &mut [], &mut []).unwrap_err();
+/// assert_eq!(refusal, Refusal::TorusSide(33));
+/// assert_eq!((refusal.number(), refusal.place()), (11, 33));
+/// assert_eq!(refusal.to_string(), "side 33 is outside 2 to 32");
+/// ```
+#[derive(Clone, Copy, Debug, PartialEq, Eq, Hash)]
+#[must_use]
+#[non_exhaustive]
+pub enum Refusal {
+    /// Number 1: the vertex count is 0 or above [`VERTICES`](crate::VERTICES).
+    VertexCount,
+    /// Number 2: the count of a given board's ends is odd, or above twice [`EDGES`](crate::EDGES).
+    EndCount,
+    /// Number 3: another buffer has the wrong length.
+    BufferLength,
+    /// Number 4: this edge has an end at or above the vertex count.
+    EndRange(usize),
+    /// Number 5: this edge has equal ends.
+    EqualEnds(usize),
+    /// Number 6: this edge has a mark above 3.
+    MarkRange(usize),
+    /// Number 7: this vertex has a syndrome byte above 1.
+    SyndromeByte(usize),
+    /// Number 8: this edge has a loss byte above 1.
+    LossByte(usize),
+    /// Number 9: this edge has a handed-in byte above 1.
+    HandedByte(usize),
+    /// Number 10: no set of edges has the syndrome, since some connected part of the board holds an
+    /// odd number of syndrome vertices; this is the smallest vertex of all such parts.
+    NoCorrection(usize),
+    /// Number 11: no torus is built with this side.
+    TorusSide(u32),
+    /// Number 12: the text to be read or written has more than [`TEXT`](crate::TEXT) bytes.
+    TextLength,
+    /// Number 13: this line, counted from 1, is the first malformed one.
+    MalformedLine(usize),
+    /// Number 14: the buffer to be written is shorter than the text.
+    TextBuffer,
+}
+
+impl Refusal {
+    /// The refusal's number, as the static library and the decode program give it.
+    #[must_use]
+    pub const fn number(self) -> u8 {
+        match self {
+            Refusal::VertexCount => 1,
+            Refusal::EndCount => 2,
+            Refusal::BufferLength => 3,
+            Refusal::EndRange(_) => 4,
+            Refusal::EqualEnds(_) => 5,
+            Refusal::MarkRange(_) => 6,
+            Refusal::SyndromeByte(_) => 7,
+            Refusal::LossByte(_) => 8,
+            Refusal::HandedByte(_) => 9,
+            Refusal::NoCorrection(_) => 10,
+            Refusal::TorusSide(_) => 11,
+            Refusal::TextLength => 12,
+            Refusal::MalformedLine(_) => 13,
+            Refusal::TextBuffer => 14,
+        }
+    }
+
+    /// The vertex, edge, side or line where the rule is broken; 0 where the rule has no place.
+    #[must_use]
+    pub const fn place(self) -> u64 {
+        match self {
+            Refusal::VertexCount
+            | Refusal::EndCount
+            | Refusal::BufferLength
+            | Refusal::TextLength
+            | Refusal::TextBuffer => 0,
+            Refusal::EndRange(place)
+            | Refusal::EqualEnds(place)
+            | Refusal::MarkRange(place)
+            | Refusal::SyndromeByte(place)
+            | Refusal::LossByte(place)
+            | Refusal::HandedByte(place)
+            | Refusal::NoCorrection(place)
+            | Refusal::MalformedLine(place) => place as u64,
+            Refusal::TorusSide(side) => side as u64,
+        }
+    }
+
+    /// The refusal with this number and place, where there is one.
+    pub(crate) fn new(number: u8, place: u64) -> Option<Refusal> {
+        let at = usize::try_from(place).ok()?;
+        let refusal = match number {
+            1 => Refusal::VertexCount,
+            2 => Refusal::EndCount,
+            3 => Refusal::BufferLength,
+            4 => Refusal::EndRange(at),
+            5 => Refusal::EqualEnds(at),
+            6 => Refusal::MarkRange(at),
+            7 => Refusal::SyndromeByte(at),
+            8 => Refusal::LossByte(at),
+            9 => Refusal::HandedByte(at),
+            10 => Refusal::NoCorrection(at),
+            11 => Refusal::TorusSide(u32::try_from(place).ok()?),
+            12 => Refusal::TextLength,
+            13 => Refusal::MalformedLine(at),
+            14 => Refusal::TextBuffer,
+            _ => return None,
+        };
+        (refusal.place() == place).then_some(refusal)
+    }
+}
+
+impl fmt::Display for Refusal {
+    fn fmt(&self, to: &mut fmt::Formatter<'_>) -> fmt::Result {
+        match self {
+            Refusal::VertexCount => write!(to, "the vertex count is 0 or above 1,024"),
+            Refusal::EndCount => write!(to, "the count of ends is odd or above 8,192"),
+            Refusal::BufferLength => write!(to, "a lent buffer has the wrong length"),
+            Refusal::EndRange(edge) => {
+                write!(to, "edge {edge} has an end at or above the vertex count")
+            }
+            Refusal::EqualEnds(edge) => write!(to, "edge {edge} has equal ends"),
+            Refusal::MarkRange(edge) => write!(to, "edge {edge} has a mark above 3"),
+            Refusal::SyndromeByte(vertex) => {
+                write!(to, "vertex {vertex} has a syndrome byte above 1")
+            }
+            Refusal::LossByte(edge) => write!(to, "edge {edge} has a loss byte above 1"),
+            Refusal::HandedByte(edge) => write!(to, "edge {edge} has a handed-in byte above 1"),
+            Refusal::NoCorrection(vertex) => {
+                write!(to, "no correction: vertex {vertex} is the smallest of all odd parts")
+            }
+            Refusal::TorusSide(side) => write!(to, "side {side} is outside 2 to 32"),
+            Refusal::TextLength => write!(to, "the text has more than 65,536 bytes"),
+            Refusal::MalformedLine(line) => write!(to, "line {line} is malformed"),
+            Refusal::TextBuffer => write!(to, "the buffer is shorter than the text"),
+        }
+    }
+}
+
+impl Error for Refusal {}
+
+#[cfg(test)]
+mod tests {
+    use super::Refusal;
+
+    /// The numbers whose refusals have no place.
+    const PLACELESS: [u8; 5] = [1, 2, 3, 12, 14];
+
+    #[test]
+    fn number_and_place_come_back() {
+        for number in 1..=14 {
+            for place in [0, 1, 1023, u64::from(u32::MAX)] {
+                let refusal = Refusal::new(number, place);
+                if place == 0 || !PLACELESS.contains(&number) {
+                    let given = refusal.map(|refusal| (refusal.number(), refusal.place()));
+                    assert_eq!(given, Some((number, place)));
+                } else {
+                    assert_eq!(refusal, None, "{number} has no place");
+                }
+            }
+        }
+    }
+
+    #[test]
+    fn other_numbers_are_no_refusal() {
+        for number in (15..=u8::MAX).chain([0]) {
+            assert_eq!(Refusal::new(number, 0), None);
+        }
+        assert_eq!(Refusal::new(11, 1 << 32), None, "a side has 32 bits");
+    }
+}

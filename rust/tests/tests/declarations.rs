@@ -1,0 +1,68 @@
+//! The C header and the Rust crate declare the functions that the Rattle source exports, parameter
+//! by parameter. No compiler compares the three.
+
+const RATTLE: &str = include_str!("../../../crates/table/src/lib.rt");
+const HEADER: &str = include_str!("../../../include/surface_table.h");
+const CRATE: &str = include_str!("../../table/src/exported.rs");
+
+/// A function's name, and its parameters as Rattle writes them.
+type Function = (String, Vec<String>);
+
+/// The functions of a source in which each begins with `start`.
+fn functions(source: &str, start: &str, parameter: fn(&str) -> String) -> Vec<Function> {
+    let function = |rest: &str| {
+        let (name, rest) = rest.split_once('(').expect("a list of parameters");
+        let (list, _) = rest.split_once(')').expect("the end of the list");
+        let parameters = list.split(',').map(str::trim).filter(|text| !text.is_empty());
+        (name.to_string(), slices(parameters.map(parameter).collect()))
+    };
+    source.split(start).skip(1).map(function).collect()
+}
+
+/// A parameter of C as Rust writes it: `const uint8_t *loss` is `loss: *const u8`.
+fn in_rust(parameter: &str) -> String {
+    let (kind, name) = parameter.rsplit_once([' ', '*']).expect("a type and a name");
+    let number = match kind.trim_start_matches("const ").trim() {
+        "size_t" => "usize",
+        "uint8_t" => "u8",
+        "uint16_t" => "u16",
+        "uint32_t" => "u32",
+        other => panic!("{other} is no type of a parameter"),
+    };
+    match (parameter.contains('*'), parameter.starts_with("const ")) {
+        (false, false) => format!("{name}: {number}"),
+        (true, true) => format!("{name}: *const {number}"),
+        (true, false) => format!("{name}: *mut {number}"),
+        (false, true) => panic!("a number that may not change: {parameter}"),
+    }
+}
+
+/// The parameters with each pointer and its count as one slice, as Rattle writes it.
+fn slices(parameters: Vec<String>) -> Vec<String> {
+    let mut slices = Vec::new();
+    let mut rest = parameters.into_iter();
+    while let Some(parameter) = rest.next() {
+        let (name, kind) = parameter.split_once(": ").expect("a name and a type");
+        let (start, element) = match kind.split_once(' ') {
+            Some(("*const", element)) => ("&", element),
+            Some(("*mut", element)) => ("&mut ", element),
+            _ => {
+                slices.push(parameter);
+                continue;
+            }
+        };
+        assert_eq!(rest.next(), Some(format!("{name}_count: usize")), "the count of {name}");
+        slices.push(format!("{name}: {start}[{element}]"));
+    }
+    slices
+}
+
+#[test]
+fn declared_as_exported() {
+    let exported = functions(RATTLE, "pub extern \"C\" fn ", str::to_string);
+    assert_eq!(exported.len(), 6);
+    let decode = &exported[0];
+    assert_eq!((decode.0.as_str(), decode.1.len()), ("surface_decode", 7));
+    assert_eq!(functions(HEADER, "\nuint64_t ", in_rust), exported, "the header");
+    assert_eq!(functions(CRATE, "pub fn ", str::to_string), exported, "the crate");
+}

@@ -1,0 +1,110 @@
+//! The C header, the page of rules and the Rust crate say the same: limits, numbers, and a sentence
+//! for each number. The numbers are those of the Rattle source.
+
+use table::{EDGES, Refusal, TEXT, VERTICES};
+
+const HEADER: &str = include_str!("../../../include/surface_table.h");
+const RULES: &str = include_str!("../../../docs/RULES.md");
+const SOURCE: &str = include_str!("../../../crates/model/src/refusal.rt");
+
+/// Every refusal, in the order of the numbers, at place 7 where it has a place.
+const REFUSALS: [Refusal; 14] = [
+    Refusal::VertexCount,
+    Refusal::EndCount,
+    Refusal::BufferLength,
+    Refusal::EndRange(7),
+    Refusal::EqualEnds(7),
+    Refusal::MarkRange(7),
+    Refusal::SyndromeByte(7),
+    Refusal::LossByte(7),
+    Refusal::HandedByte(7),
+    Refusal::NoCorrection(7),
+    Refusal::TorusSide(7),
+    Refusal::TextLength,
+    Refusal::MalformedLine(7),
+    Refusal::TextBuffer,
+];
+
+/// What a place can be.
+const KINDS: [&str; 4] = ["vertex", "edge", "side", "line"];
+
+/// What the header has between `start`, with which a line begins, and the next of `ends`.
+fn between(start: &str, ends: &[char]) -> Option<&'static str> {
+    HEADER.lines().find_map(|line| line.trim().strip_prefix(start)?.split(ends).next())
+}
+
+/// The name of a refusal's case.
+fn case_of(refusal: Refusal) -> String {
+    format!("{refusal:?}").split('(').next().unwrap_or_default().to_string()
+}
+
+/// The header's name for a refusal: `EndRange` is `SURFACE_REFUSED_END_RANGE` there.
+fn name_of(refusal: Refusal) -> String {
+    let mut name = String::from("SURFACE_REFUSED");
+    for letter in case_of(refusal).chars() {
+        if letter.is_uppercase() {
+            name.push('_');
+        }
+        name.push(letter.to_ascii_uppercase());
+    }
+    name
+}
+
+/// What a refusal says wherever it is: the place's number is left out.
+fn sentence_of(refusal: Refusal) -> String {
+    KINDS.iter().fold(refusal.to_string(), |sentence, kind| {
+        sentence.replace(&format!("{kind} 7"), &format!("the {kind}"))
+    })
+}
+
+/// What a refusal's place is, or 0.
+fn place_of(refusal: Refusal) -> &'static str {
+    let sentence = refusal.to_string();
+    KINDS.into_iter().find(|kind| sentence.contains(&format!("{kind} 7"))).unwrap_or("0")
+}
+
+#[test]
+fn limits() {
+    for (name, limit) in [("VERTICES", VERTICES), ("EDGES", EDGES), ("TEXT", TEXT)] {
+        let header = between(&format!("#define SURFACE_{name} "), &[' ']);
+        assert_eq!(header, Some(limit.to_string().as_str()), "{name}");
+    }
+}
+
+/// The cases with their numbers, as the source's function `number` lists them.
+#[test]
+fn numbers_of_the_source() {
+    let (number, _) = SOURCE.split_once("pub fn place").expect("`place` after `number`");
+    let listed: Vec<&str> =
+        number.lines().filter_map(|line| line.trim().strip_prefix("Refusal::")).collect();
+    let cases = REFUSALS.map(|refusal| match refusal.place() {
+        0 => format!("{} => {},", case_of(refusal), refusal.number()),
+        _ => format!("{}(_) => {},", case_of(refusal), refusal.number()),
+    });
+    assert_eq!(listed, cases);
+}
+
+#[test]
+fn numbers_and_sentences_of_the_header() {
+    for refusal in REFUSALS {
+        let name = name_of(refusal);
+        let number = between(&format!("{name} = "), &[',', ' ']);
+        assert_eq!(number, Some(refusal.number().to_string().as_str()), "{name}");
+        let sentence = between(&format!("case {name}: return \""), &['"']);
+        assert_eq!(sentence, Some(sentence_of(refusal).as_str()), "{name}");
+    }
+    let names = HEADER.lines().filter(|line| line.trim().starts_with("SURFACE_REFUSED_"));
+    assert_eq!(names.count(), REFUSALS.len(), "the header has a name that no refusal has");
+}
+
+#[test]
+fn rows_of_the_rules() {
+    for refusal in REFUSALS {
+        let (number, place) = (refusal.number(), place_of(refusal));
+        let row = format!("| {number} | {place} | {} |", sentence_of(refusal));
+        assert!(RULES.lines().any(|line| line == row), "docs/RULES.md has no row {row}");
+    }
+    let first_cell = |line: &'static str| line.strip_prefix("| ")?.split(" |").next();
+    let rows = RULES.lines().filter_map(first_cell).filter(|cell| cell.parse::<u8>().is_ok());
+    assert_eq!(rows.count(), REFUSALS.len(), "docs/RULES.md has a row that no refusal has");
+}

@@ -1,0 +1,76 @@
+//! Calls on several threads at once: sheets are shared, buffers are each thread's own.
+
+use std::thread;
+
+use reference::generators::{Kind, sheet};
+use reference::torus::torus;
+use reference::{Key, Random, Refusal, Sheet};
+use table_tests::{agrees, library};
+
+const THREADS: usize = 4;
+
+/// Small sheets of every kind, and tori, whose keys take longer.
+fn sheets() -> Vec<Sheet> {
+    let mut random = Random::new(141);
+    let mut sheets: Vec<Sheet> = (0..2000)
+        .map(|round| {
+            let board = Kind::ALL[round % Kind::ALL.len()].board(&mut random);
+            sheet(&mut random, board)
+        })
+        .collect();
+    for _ in 0..40 {
+        let board = torus(16);
+        let syndrome = board.syndrome(&random.set(board.edges(), 50));
+        let loss = random.set(board.edges(), 20);
+        sheets.push(Sheet { board, syndrome, loss });
+    }
+    sheets
+}
+
+#[test]
+fn keys_are_those_of_one_thread() {
+    let sheets = &sheets();
+    let keys: &Vec<Result<Key, Refusal>> = &sheets.iter().map(library::decode).collect();
+    thread::scope(|scope| {
+        for first in 0..THREADS {
+            scope.spawn(move || {
+                let turn = sheets.len() / THREADS * first;
+                for at in (turn..sheets.len()).chain(0..turn) {
+                    assert_eq!(library::decode(&sheets[at]), keys[at], "{:?}", sheets[at]);
+                }
+            });
+        }
+    });
+}
+
+/// Each thread makes other calls than its neighbours at the same time.
+#[test]
+fn all_calls_at_once() {
+    let sheets = &sheets()[..1000];
+    thread::scope(|scope| {
+        scope.spawn(|| {
+            for sheet in sheets {
+                let _ = agrees::decode(sheet);
+            }
+        });
+        scope.spawn(|| {
+            for sheet in sheets {
+                agrees::distance(&sheet.board).expect("a board that keeps the rules");
+            }
+        });
+        scope.spawn(|| {
+            for sheet in sheets {
+                let text = agrees::write(sheet).expect("a short text");
+                assert_eq!(agrees::read(&text).as_ref(), Ok(sheet));
+            }
+        });
+        scope.spawn(|| {
+            for (round, sheet) in sheets.iter().enumerate() {
+                let _ = agrees::verdict(sheet, &sheet.loss);
+                let side = 2 + round as u32 % 31;
+                let edges = 2 * (side * side) as usize;
+                agrees::torus_with(side, 2 * edges, edges).expect("a side in range");
+            }
+        });
+    });
+}

@@ -1,0 +1,209 @@
+/* How much stack each call needs, beside what the header says of it.
+ *
+ * A call is made on a painted stack; what it used is counted from the top down to the lowest byte that lost its paint, the return address
+ * and the arguments that pass over the stack among it. What a call can use it does use once all of its code is run: arrays have fixed
+ * lengths and are filled when they are made, and the one recursion, over the digits of a number that is written, is at its deepest with
+ * numbers of four digits. So each call is made on boards at the limits, on the smallest board, and where it refuses.
+ */
+#define _XOPEN_SOURCE 700
+#include <stdbool.h>
+#include <stdio.h>
+#include <stdlib.h>
+#include <string.h>
+#include <ucontext.h>
+
+#include "surface_table.h"
+
+/* PAGE is what the header adds for the C library, and what it rounds up to; LIMIT what no call may need. */
+enum { STACK = 1024 * 1024, PAGE = 4096, LIMIT = 256 * 1024 };
+
+static unsigned char stack[STACK];
+static ucontext_t outside, inside;
+
+/* What the calls are lent. */
+static size_t vertices, edges, text_count;
+static uint32_t side;
+static uint16_t ends[SURFACE_ENDS];
+static uint8_t marks[SURFACE_MARKS], syndrome[SURFACE_SYNDROME], loss[SURFACE_LOSS], handed[SURFACE_EDGES];
+static uint8_t support[SURFACE_EDGES], correction[SURFACE_EDGES], shown[SURFACE_EDGES], text[SURFACE_TEXT];
+
+static uint64_t returned;
+
+static void decode(void)
+{
+    returned = surface_decode(vertices, ends, 2 * edges, marks, edges, syndrome, vertices, loss, edges, support, edges, correction, edges);
+}
+
+static void verdict(void)
+{
+    returned = surface_verdict(vertices, ends, 2 * edges, marks, edges, syndrome, vertices, loss, edges, handed, edges);
+}
+
+static void distance(void) { returned = surface_distance(vertices, ends, 2 * edges, marks, edges, shown, edges); }
+
+static void torus(void) { returned = surface_torus(side, ends, 2 * edges, marks, edges); }
+
+static void write_text(void)
+{
+    returned = surface_write(vertices, ends, 2 * edges, marks, edges, syndrome, vertices, loss, edges, text, SURFACE_TEXT);
+}
+
+static void read_text(void)
+{
+    returned = surface_read(text, text_count, ends, SURFACE_ENDS, marks, SURFACE_MARKS, syndrome, SURFACE_SYNDROME, loss, SURFACE_LOSS);
+}
+
+/* A call, how many bytes the header says that it needs, the most that it was seen to use, and which answers were seen. */
+struct call {
+    const char *name;
+    void (*make)(void);
+    size_t said;
+    size_t most;
+    bool answered, refused;
+};
+
+enum { DECODE, VERDICT, DISTANCE, TORUS, READ, WRITE, CALLS };
+
+static struct call calls[CALLS] = {
+    {"surface_decode", decode, SURFACE_STACK_DECODE, 0, false, false},
+    {"surface_verdict", verdict, SURFACE_STACK_VERDICT, 0, false, false},
+    {"surface_distance", distance, SURFACE_STACK_DISTANCE, 0, false, false},
+    {"surface_torus", torus, SURFACE_STACK_TORUS, 0, false, false},
+    {"surface_read", read_text, SURFACE_STACK_READ, 0, false, false},
+    {"surface_write", write_text, SURFACE_STACK_WRITE, 0, false, false},
+};
+
+/* The bytes that a call uses of a stack of this paint. */
+static size_t used(void (*make)(void), unsigned char paint)
+{
+    memset(stack, paint, STACK);
+    if (getcontext(&inside) != 0)
+        abort();
+    inside.uc_stack.ss_sp = stack;
+    inside.uc_stack.ss_size = STACK;
+    inside.uc_link = &outside;
+    makecontext(&inside, make, 0);
+    if (swapcontext(&outside, &inside) != 0)
+        abort();
+    size_t untouched = 0;
+    while (untouched < STACK && stack[untouched] == paint)
+        untouched++;
+    return STACK - untouched;
+}
+
+/* Makes a call on stacks of two paints: a byte that is written may have one of them. */
+static void measure(int which)
+{
+    struct call *call = &calls[which];
+    const unsigned char paints[] = {0xa5, 0x5a};
+    for (int i = 0; i < 2; i++) {
+        size_t bytes = used(call->make, paints[i]);
+        if (bytes > call->most)
+            call->most = bytes;
+    }
+    if (surface_refusal(returned) == SURFACE_NOT_REFUSED)
+        call->answered = true;
+    else
+        call->refused = true;
+}
+
+/* All calls that are lent a board, on the one at hand; what is written is then read. */
+static void measure_board(void)
+{
+    measure(DECODE);
+    measure(VERDICT);
+    measure(DISTANCE);
+    measure(WRITE);
+    text_count = surface_refusal(returned) == SURFACE_NOT_REFUSED ? surface_first(returned) : 0;
+    measure(READ);
+}
+
+/* Every seventh vertex lit, but an even number of them; every fifth edge lost, the last one among them. */
+static void light_and_lose(void)
+{
+    memset(syndrome, 0, sizeof syndrome);
+    memset(loss, 0, sizeof loss);
+    memset(handed, 0, sizeof handed);
+    for (size_t v = 0; v + 7 < vertices; v += 14)
+        syndrome[v] = syndrome[v + 7] = 1;
+    for (size_t e = 0; e < edges; e++)
+        loss[edges - 1 - e] = e % 5 == 0;
+}
+
+/* The torus of the largest side. */
+static void largest_torus(void)
+{
+    side = 32;
+    vertices = SURFACE_VERTICES;
+    edges = 2 * SURFACE_VERTICES;
+    measure(TORUS);
+    light_and_lose();
+    measure_board();
+    side = 33;
+    measure(TORUS);
+}
+
+/* As many vertices and edges as there may be: four rings through all vertices, with steps 1, 3, 5 and 7, and every mark. */
+static void most_edges(void)
+{
+    vertices = SURFACE_VERTICES;
+    edges = SURFACE_EDGES;
+    for (size_t e = 0; e < edges; e++) {
+        size_t v = e % vertices, step = 2 * (e / vertices) + 1;
+        ends[2 * e] = (uint16_t)v;
+        ends[2 * e + 1] = (uint16_t)((v + step) % vertices);
+        marks[e] = (uint8_t)(e % 4);
+    }
+    light_and_lose();
+    measure_board();
+}
+
+/* A path through all vertices whose two ends alone are lit: the most growths that its vertices allow. No loop winds. */
+static void long_path(void)
+{
+    vertices = SURFACE_VERTICES;
+    edges = vertices - 1;
+    for (size_t e = 0; e < edges; e++) {
+        ends[2 * e] = (uint16_t)e;
+        ends[2 * e + 1] = (uint16_t)(e + 1);
+        marks[e] = 0;
+    }
+    memset(syndrome, 0, sizeof syndrome);
+    memset(loss, 0, sizeof loss);
+    syndrome[0] = syndrome[vertices - 1] = 1;
+    measure_board();
+    syndrome[0] = 0; /* no correction */
+    measure_board();
+    marks[edges - 1] = 4;
+    measure_board();
+}
+
+/* One vertex without an edge, and none. */
+static void smallest(void)
+{
+    vertices = 1;
+    edges = 0;
+    memset(syndrome, 0, sizeof syndrome);
+    measure_board();
+    vertices = 0;
+    measure_board();
+}
+
+int main(void)
+{
+    largest_torus();
+    most_edges();
+    long_path();
+    smallest();
+
+    bool good = true;
+    for (int i = 0; i < CALLS; i++) {
+        struct call call = calls[i];
+        bool fits = call.most <= LIMIT && call.said <= LIMIT && call.most + PAGE <= call.said && call.said < call.most + 2 * PAGE;
+        bool seen = call.answered && call.refused;
+        printf("%-16s %6zu bytes of stack, the header says %6zu%s%s\n", call.name, call.most, call.said, fits ? "" : ": doesn't fit",
+               seen ? "" : ": not seen to answer and to refuse");
+        good = good && fits && seen;
+    }
+    return good ? 0 : 1;
+}

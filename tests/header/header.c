@@ -1,0 +1,46 @@
+/* What the header's own functions give, for numbers written out by hand. The header stands first, so that it must bring all it needs. */
+#include "surface_table.h"
+
+#include <stdio.h>
+#include <string.h>
+
+static int failures = 0;
+
+static void hold(int kept, const char *what)
+{
+    if (!kept) {
+        printf("header: %s\n", what);
+        failures++;
+    }
+}
+
+/* Each number up to the last has a sentence of its own, and numbers past it share one more. */
+static void hold_sentences(void)
+{
+    const char *none = surface_refusal_text(SURFACE_REFUSED_TEXT_BUFFER + 1);
+    for (unsigned number = 0; number <= SURFACE_REFUSED_TEXT_BUFFER; number++) {
+        const char *text = surface_refusal_text(number);
+        hold(strlen(text) > 0 && strcmp(text, none) != 0, "a number without its sentence");
+        for (unsigned smaller = 0; smaller < number; smaller++)
+            hold(strcmp(text, surface_refusal_text(smaller)) != 0, "two numbers with one sentence");
+    }
+    for (unsigned number = SURFACE_REFUSED_TEXT_BUFFER + 1; number <= 256; number++)
+        hold(strcmp(surface_refusal_text(number), none) == 0, "a number that no refusal has");
+}
+
+int main(void)
+{
+    const uint64_t key = UINT64_C(0xabcdef0123456700);
+    hold(surface_refusal(key) == SURFACE_NOT_REFUSED, "an answer");
+    hold(surface_first(key) == 0x01234567, "the first value");
+    hold(surface_second(key) == 0xabcdef, "the second value");
+
+    const uint64_t refused = (UINT64_C(0xfedcba9876543) << 8) + 13;
+    hold(surface_refusal(refused) == SURFACE_REFUSED_MALFORMED_LINE, "the refusal's number");
+    hold(surface_place(refused) == UINT64_C(0xfedcba9876543), "the refusal's place");
+
+    hold(SURFACE_ENDS == 8192 && SURFACE_MARKS == 4096 && SURFACE_SYNDROME == 1024 && SURFACE_LOSS == 4096, "the reader's buffers");
+    hold(SURFACE_VERSION >= 1, "the version");
+    hold_sentences();
+    return failures == 0 ? 0 : 1;
+}
