@@ -1,9 +1,10 @@
 /* How much stack each call needs, beside what the header says of it.
  *
  * A call is made on a painted stack; what it used is counted from the top down to the lowest byte that lost its paint, the return address
- * and the arguments that pass over the stack among it. What a call can use it does use once all of its code is run: arrays have fixed
- * lengths and are filled when they are made, and the one recursion, over the digits of a number that is written, is at its deepest with
- * numbers of four digits. So each call is made on boards at the limits, on the smallest board, and where it refuses.
+ * and the arguments that pass over the stack among it. What a call can use shows once every frame of it is made: arrays have fixed lengths
+ * and are filled when they are made, and the one recursion, over the digits of a number that is written, is at its deepest with numbers of
+ * four digits. So each call is made on boards at the limits, on the smallest board, and where it refuses. The lowest bytes of a frame may
+ * stay unwritten, 16 of them in surface_write; the page that the header adds has room for them.
  */
 #define _XOPEN_SOURCE 700
 #include <stdbool.h>

@@ -4,6 +4,24 @@
 //! no code could test: that pointers are valid for their counts, and that no buffer that is written
 //! overlaps another.
 
+/// Makes a call of the static library: its numbers; the slices that it reads; those that it fills.
+/// That is the order of every function's parameters.
+macro_rules! call {
+    ($function:ident($($number:ident),*; $($read:ident),*; $($filled:ident),*)) => {
+        // SAFETY: each pointer is a slice's, with its length; what is filled is borrowed mutably, so
+        // it overlaps nothing.
+        unsafe {
+            $crate::exported::$function(
+                $($number,)*
+                $($read.as_ptr(), $read.len(),)*
+                $($filled.as_mut_ptr(), $filled.len(),)*
+            )
+        }
+    };
+}
+
+pub(crate) use call;
+
 unsafe extern "C" {
     pub fn surface_decode(
         vertices: usize,

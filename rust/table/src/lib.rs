@@ -8,7 +8,8 @@
 //!
 //! A call keeps nothing between calls, allocates nothing, and may be made on any number of threads
 //! at once. It runs on the caller's stack, of which `include/surface_table.h` says how much it
-//! needs. An answer that the proved library cannot give is a panic: another library was linked.
+//! needs. A number that the proved library never returns from a call (a refusal of another call, a
+//! value or a place out of its range) is a panic: another library was linked.
 //!
 //! The ring with vertices 0 and 3 in the syndrome:
 //!

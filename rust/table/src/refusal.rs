@@ -3,6 +3,8 @@
 use core::error::Error;
 use core::fmt;
 
+use crate::{EDGES, TEXT, VERTICES};
+
 /// The rule that is broken, with the place where it is broken.
 ///
 /// Of all the rules that a call's buffers break, the one with the smallest number is given, at its
@@ -97,23 +99,26 @@ impl Refusal {
         }
     }
 
-    /// The refusal with this number and place, where there is one.
+    /// The refusal with this number and place, where there is one. An edge, a vertex or a line is
+    /// below the limits; a text has at most one line more than bytes.
     pub(crate) fn new(number: u8, place: u64) -> Option<Refusal> {
         let at = usize::try_from(place).ok()?;
+        let edge = (at < EDGES).then_some(at);
+        let vertex = (at < VERTICES).then_some(at);
         let refusal = match number {
             1 => Refusal::VertexCount,
             2 => Refusal::EndCount,
             3 => Refusal::BufferLength,
-            4 => Refusal::EndRange(at),
-            5 => Refusal::EqualEnds(at),
-            6 => Refusal::MarkRange(at),
-            7 => Refusal::SyndromeByte(at),
-            8 => Refusal::LossByte(at),
-            9 => Refusal::HandedByte(at),
-            10 => Refusal::NoCorrection(at),
+            4 => Refusal::EndRange(edge?),
+            5 => Refusal::EqualEnds(edge?),
+            6 => Refusal::MarkRange(edge?),
+            7 => Refusal::SyndromeByte(vertex?),
+            8 => Refusal::LossByte(edge?),
+            9 => Refusal::HandedByte(edge?),
+            10 => Refusal::NoCorrection(vertex?),
             11 => Refusal::TorusSide(u32::try_from(place).ok()?),
             12 => Refusal::TextLength,
-            13 => Refusal::MalformedLine(at),
+            13 if (1..=TEXT + 1).contains(&at) => Refusal::MalformedLine(at),
             14 => Refusal::TextBuffer,
             _ => return None,
         };
@@ -154,20 +159,35 @@ impl Error for Refusal {}
 mod tests {
     use super::Refusal;
 
-    /// The numbers whose refusals have no place.
-    const PLACELESS: [u8; 5] = [1, 2, 3, 12, 14];
+    /// Each number with its smallest and its largest place.
+    const PLACES: [(u8, u64, u64); 14] = [
+        (1, 0, 0),
+        (2, 0, 0),
+        (3, 0, 0),
+        (4, 0, 4095),
+        (5, 0, 4095),
+        (6, 0, 4095),
+        (7, 0, 1023),
+        (8, 0, 4095),
+        (9, 0, 4095),
+        (10, 0, 1023),
+        (11, 0, u32::MAX as u64),
+        (12, 0, 0),
+        (13, 1, 65_537),
+        (14, 0, 0),
+    ];
 
     #[test]
     fn number_and_place_come_back() {
-        for number in 1..=14 {
-            for place in [0, 1, 1023, u64::from(u32::MAX)] {
+        for (number, smallest, largest) in PLACES {
+            for place in [smallest, largest] {
                 let refusal = Refusal::new(number, place);
-                if place == 0 || !PLACELESS.contains(&number) {
-                    let given = refusal.map(|refusal| (refusal.number(), refusal.place()));
-                    assert_eq!(given, Some((number, place)));
-                } else {
-                    assert_eq!(refusal, None, "{number} has no place");
-                }
+                let given = refusal.map(|refusal| (refusal.number(), refusal.place()));
+                assert_eq!(given, Some((number, place)));
+            }
+            assert_eq!(Refusal::new(number, largest + 1), None, "{number}");
+            if smallest > 0 {
+                assert_eq!(Refusal::new(number, smallest - 1), None, "{number}");
             }
         }
     }
@@ -177,6 +197,5 @@ mod tests {
         for number in (15..=u8::MAX).chain([0]) {
             assert_eq!(Refusal::new(number, 0), None);
         }
-        assert_eq!(Refusal::new(11, 1 << 32), None, "a side has 32 bits");
     }
 }

@@ -1,7 +1,8 @@
 //! Decoding.
 
-use crate::packed::unpack;
-use crate::{Board, Refusal, Sheet, exported};
+use crate::exported::call;
+use crate::packed::{impossible, unpack};
+use crate::{Board, Refusal, Sheet};
 
 /// What [`decode`] counts of the key whose bytes it writes.
 #[derive(Clone, Copy, Debug, PartialEq, Eq)]
@@ -46,25 +47,46 @@ pub struct Key {
 #[must_use = "a refusal has written nothing"]
 pub fn decode(sheet: Sheet<'_>, support: &mut [u8], correction: &mut [u8]) -> Result<Key, Refusal> {
     let Sheet { board: Board { vertices, ends, marks }, syndrome, loss } = sheet;
-    // SAFETY: each pointer is a slice's, with its length; the two that are written are borrowed
-    // mutably, so they overlap nothing.
-    let returned = unsafe {
-        exported::surface_decode(
-            vertices,
-            ends.as_ptr(),
-            ends.len(),
-            marks.as_ptr(),
-            marks.len(),
-            syndrome.as_ptr(),
-            syndrome.len(),
-            loss.as_ptr(),
-            loss.len(),
-            support.as_mut_ptr(),
-            support.len(),
-            correction.as_mut_ptr(),
-            correction.len(),
-        )
-    };
-    let (growths, edges) = unpack(returned)?;
-    Ok(Key { growths: growths as usize, edges: edges as usize })
+    let returned =
+        call!(surface_decode(vertices; ends, marks, syndrome, loss; support, correction));
+    unpack_key(returned, marks.len())
+}
+
+/// The key of a board with so many edges that a returned number stands for.
+fn unpack_key(returned: u64, all: usize) -> Result<Key, Refusal> {
+    match unpack(returned, &[1, 2, 3, 4, 5, 6, 7, 8, 10])? {
+        (growths, edges) if growths <= 2 * all && edges <= all => Ok(Key { growths, edges }),
+        _ => impossible(returned),
+    }
+}
+
+#[cfg(test)]
+mod tests {
+    use super::{Key, unpack_key};
+    use crate::Refusal;
+
+    #[test]
+    fn each_answer() {
+        assert_eq!(unpack_key(0, 0), Ok(Key { growths: 0, edges: 0 }));
+        assert_eq!(unpack_key(6 << 8 | 3 << 40, 3), Ok(Key { growths: 6, edges: 3 }));
+        assert_eq!(unpack_key(10 | 5 << 8, 3), Err(Refusal::NoCorrection(5)));
+    }
+
+    #[test]
+    #[should_panic(expected = "returned 0x700, which this call never answers")]
+    fn growth_too_many() {
+        let _ = unpack_key(7 << 8, 3);
+    }
+
+    #[test]
+    #[should_panic(expected = "returned 0x40000000000, which this call never answers")]
+    fn edge_too_many() {
+        let _ = unpack_key(4 << 40, 3);
+    }
+
+    #[test]
+    #[should_panic(expected = "returned 0x9, which this call never answers")]
+    fn number_of_the_verdict() {
+        let _ = unpack_key(9, 3);
+    }
 }

@@ -1,7 +1,8 @@
 //! The distance.
 
+use crate::exported::call;
 use crate::packed::{impossible, unpack};
-use crate::{Board, Refusal, exported};
+use crate::{Board, Refusal};
 
 /// Finds the fewest edges of a winding loop and writes one such loop, a byte for each edge; `None`,
 /// and all bytes 0, where no loop winds.
@@ -27,27 +28,16 @@ use crate::{Board, Refusal, exported};
 #[must_use = "a refusal has written nothing"]
 pub fn distance(board: Board<'_>, shown: &mut [u8]) -> Result<Option<usize>, Refusal> {
     let Board { vertices, ends, marks } = board;
-    // SAFETY: each pointer is a slice's, with its length; the one that is written is borrowed
-    // mutably, so it overlaps nothing.
-    let returned = unsafe {
-        exported::surface_distance(
-            vertices,
-            ends.as_ptr(),
-            ends.len(),
-            marks.as_ptr(),
-            marks.len(),
-            shown.as_mut_ptr(),
-            shown.len(),
-        )
-    };
-    unpack_distance(returned)
+    let returned = call!(surface_distance(vertices; ends, marks; shown));
+    unpack_distance(returned, marks.len())
 }
 
-/// The distance that a returned number stands for. A winding loop has an edge at least.
-fn unpack_distance(returned: u64) -> Result<Option<usize>, Refusal> {
-    match unpack(returned)? {
+/// The distance of a board with so many edges that a returned number stands for. A winding loop has
+/// an edge at least.
+fn unpack_distance(returned: u64, edges: usize) -> Result<Option<usize>, Refusal> {
+    match unpack(returned, &[1, 2, 3, 4, 5, 6])? {
         (0, 0) => Ok(None),
-        (fewest @ 1.., 1) => Ok(Some(fewest as usize)),
+        (fewest @ 1.., 1) if fewest <= edges => Ok(Some(fewest)),
         _ => impossible(returned),
     }
 }
@@ -59,20 +49,26 @@ mod tests {
 
     #[test]
     fn each_answer() {
-        assert_eq!(unpack_distance(0), Ok(None));
-        assert_eq!(unpack_distance(32 << 8 | 1 << 40), Ok(Some(32)));
-        assert_eq!(unpack_distance(6 | 4095 << 8), Err(Refusal::MarkRange(4095)));
+        assert_eq!(unpack_distance(0, 0), Ok(None));
+        assert_eq!(unpack_distance(4 << 8 | 1 << 40, 4), Ok(Some(4)));
+        assert_eq!(unpack_distance(6 | 4095 << 8, 4), Err(Refusal::MarkRange(4095)));
     }
 
     #[test]
     #[should_panic(expected = "returned 0x10000000000, which this call never answers")]
     fn loop_without_edges() {
-        let _ = unpack_distance(1 << 40);
+        let _ = unpack_distance(1 << 40, 4);
     }
 
     #[test]
     #[should_panic(expected = "returned 0x20000000400, which this call never answers")]
     fn neither_some_nor_none() {
-        let _ = unpack_distance(4 << 8 | 2 << 40);
+        let _ = unpack_distance(4 << 8 | 2 << 40, 4);
+    }
+
+    #[test]
+    #[should_panic(expected = "returned 0x10000000500, which this call never answers")]
+    fn edge_too_many() {
+        let _ = unpack_distance(5 << 8 | 1 << 40, 4);
     }
 }

@@ -1,7 +1,8 @@
 //! Reading a text.
 
-use crate::packed::unpack;
-use crate::{Refusal, exported};
+use crate::exported::call;
+use crate::packed::{impossible, unpack};
+use crate::{EDGES, Refusal, VERTICES};
 
 /// The counts of the board that [`read`] found in a text.
 #[derive(Clone, Copy, Debug, PartialEq, Eq)]
@@ -13,9 +14,8 @@ pub struct Counts {
     pub edges: usize,
 }
 
-/// Reads a text into buffers of exactly twice [`EDGES`](crate::EDGES) ends, [`EDGES`](crate::EDGES)
-/// marks, [`VERTICES`](crate::VERTICES) syndrome bytes and [`EDGES`](crate::EDGES) loss bytes.
-/// Entries past the board's counts are left as they were.
+/// Reads a text into buffers of exactly twice [`EDGES`] ends, [`EDGES`] marks, [`VERTICES`] syndrome
+/// bytes and [`EDGES`] loss bytes. Entries past the board's counts are left as they were.
 ///
 /// # Errors
 ///
@@ -47,22 +47,40 @@ pub fn read(
     syndrome: &mut [u8],
     loss: &mut [u8],
 ) -> Result<Counts, Refusal> {
-    // SAFETY: each pointer is a slice's, with its length; the four that are written are borrowed
-    // mutably, so they overlap nothing.
-    let returned = unsafe {
-        exported::surface_read(
-            text.as_ptr(),
-            text.len(),
-            ends.as_mut_ptr(),
-            ends.len(),
-            marks.as_mut_ptr(),
-            marks.len(),
-            syndrome.as_mut_ptr(),
-            syndrome.len(),
-            loss.as_mut_ptr(),
-            loss.len(),
-        )
-    };
-    let (vertices, edges) = unpack(returned)?;
-    Ok(Counts { vertices: vertices as usize, edges: edges as usize })
+    let returned = call!(surface_read(; text; ends, marks, syndrome, loss));
+    unpack_counts(returned)
+}
+
+/// The counts that a returned number stands for.
+fn unpack_counts(returned: u64) -> Result<Counts, Refusal> {
+    match unpack(returned, &[3, 12, 13])? {
+        (vertices @ 1..=VERTICES, edges @ ..=EDGES) => Ok(Counts { vertices, edges }),
+        _ => impossible(returned),
+    }
+}
+
+#[cfg(test)]
+mod tests {
+    use super::{Counts, unpack_counts};
+    use crate::Refusal;
+
+    #[test]
+    fn each_answer() {
+        let largest = Counts { vertices: 1024, edges: 4096 };
+        assert_eq!(unpack_counts(1024 << 8 | 4096 << 40), Ok(largest));
+        assert_eq!(unpack_counts(1 << 8), Ok(Counts { vertices: 1, edges: 0 }));
+        assert_eq!(unpack_counts(13 | 1 << 8), Err(Refusal::MalformedLine(1)));
+    }
+
+    #[test]
+    #[should_panic(expected = "returned 0x0, which this call never answers")]
+    fn no_vertices() {
+        let _ = unpack_counts(0);
+    }
+
+    #[test]
+    #[should_panic(expected = "returned 0x10010000000100, which this call never answers")]
+    fn edge_too_many() {
+        let _ = unpack_counts(1 << 8 | 4097 << 40);
+    }
 }

@@ -1,7 +1,8 @@
 //! The torus builder.
 
-use crate::packed::unpack;
-use crate::{Refusal, exported};
+use crate::Refusal;
+use crate::exported::call;
+use crate::packed::{impossible, unpack};
 
 /// Writes the torus of a side, 2 to 32, and answers with its vertex count.
 ///
@@ -26,17 +27,47 @@ use crate::{Refusal, exported};
 /// ```
 #[must_use = "a refusal has written nothing"]
 pub fn torus(side: u32, ends: &mut [u16], marks: &mut [u8]) -> Result<usize, Refusal> {
-    // SAFETY: each pointer is a slice's, with its length; both are borrowed mutably, so they don't
-    // overlap.
-    let returned = unsafe {
-        exported::surface_torus(
-            side,
-            ends.as_mut_ptr(),
-            ends.len(),
-            marks.as_mut_ptr(),
-            marks.len(),
-        )
-    };
-    let (vertices, _) = unpack(returned)?;
-    Ok(vertices as usize)
+    let returned = call!(surface_torus(side;; ends, marks));
+    unpack_vertices(returned, side)
+}
+
+/// The vertex count of the torus of a side that a returned number stands for.
+fn unpack_vertices(returned: u64, side: u32) -> Result<usize, Refusal> {
+    match unpack(returned, &[3, 11]) {
+        Ok((vertices, 0)) if Some(vertices) == (side as usize).checked_pow(2) => Ok(vertices),
+        Err(Refusal::TorusSide(refused)) if refused != side => impossible(returned),
+        Err(refusal) => Err(refusal),
+        Ok(_) => impossible(returned),
+    }
+}
+
+#[cfg(test)]
+mod tests {
+    use super::unpack_vertices;
+    use crate::Refusal;
+
+    #[test]
+    fn each_answer() {
+        assert_eq!(unpack_vertices(1024 << 8, 32), Ok(1024));
+        assert_eq!(unpack_vertices(3, 32), Err(Refusal::BufferLength));
+        assert_eq!(unpack_vertices(11 | 33 << 8, 33), Err(Refusal::TorusSide(33)));
+    }
+
+    #[test]
+    #[should_panic(expected = "returned 0x40000, which this call never answers")]
+    fn vertices_of_another_side() {
+        let _ = unpack_vertices(1024 << 8, 31);
+    }
+
+    #[test]
+    #[should_panic(expected = "returned 0x10000000400, which this call never answers")]
+    fn second_value() {
+        let _ = unpack_vertices(4 << 8 | 1 << 40, 2);
+    }
+
+    #[test]
+    #[should_panic(expected = "returned 0x210b, which this call never answers")]
+    fn another_side_refused() {
+        let _ = unpack_vertices(11 | 33 << 8, 34);
+    }
 }

@@ -1,7 +1,8 @@
 //! The verdict on a handed-in set.
 
+use crate::exported::call;
 use crate::packed::{impossible, unpack};
-use crate::{Board, Refusal, Sheet, exported};
+use crate::{Board, Refusal, Sheet};
 
 /// What [`verdict`] says of a handed-in set.
 #[derive(Clone, Copy, Debug, PartialEq, Eq)]
@@ -40,29 +41,14 @@ pub enum Verdict {
 #[must_use = "nothing is written: the answer is all there is"]
 pub fn verdict(sheet: Sheet<'_>, handed: &[u8]) -> Result<Verdict, Refusal> {
     let Sheet { board: Board { vertices, ends, marks }, syndrome, loss } = sheet;
-    // SAFETY: each pointer is a slice's, with its length; nothing is written.
-    let returned = unsafe {
-        exported::surface_verdict(
-            vertices,
-            ends.as_ptr(),
-            ends.len(),
-            marks.as_ptr(),
-            marks.len(),
-            syndrome.as_ptr(),
-            syndrome.len(),
-            loss.as_ptr(),
-            loss.len(),
-            handed.as_ptr(),
-            handed.len(),
-        )
-    };
-    unpack_verdict(returned)
+    let returned = call!(surface_verdict(vertices; ends, marks, syndrome, loss, handed;));
+    unpack_verdict(returned, vertices)
 }
 
-/// The verdict that a returned number stands for.
-fn unpack_verdict(returned: u64) -> Result<Verdict, Refusal> {
-    match unpack(returned)? {
-        (1, vertex) => Ok(Verdict::Off(vertex as usize)),
+/// The verdict on a board with so many vertices that a returned number stands for.
+fn unpack_verdict(returned: u64, vertices: usize) -> Result<Verdict, Refusal> {
+    match unpack(returned, &[1, 2, 3, 4, 5, 6, 7, 8, 9, 10])? {
+        (1, vertex) if vertex < vertices => Ok(Verdict::Off(vertex)),
         (2, 0) => Ok(Verdict::Same),
         (3, marks @ 1..=3) => Ok(Verdict::Wound(marks as u8)),
         _ => impossible(returned),
@@ -76,21 +62,27 @@ mod tests {
 
     #[test]
     fn each_answer() {
-        assert_eq!(unpack_verdict(1 << 8 | 1023 << 40), Ok(Verdict::Off(1023)));
-        assert_eq!(unpack_verdict(2 << 8), Ok(Verdict::Same));
-        assert_eq!(unpack_verdict(3 << 8 | 3 << 40), Ok(Verdict::Wound(3)));
-        assert_eq!(unpack_verdict(9 | 5 << 8), Err(Refusal::HandedByte(5)));
+        assert_eq!(unpack_verdict(1 << 8 | 6 << 40, 7), Ok(Verdict::Off(6)));
+        assert_eq!(unpack_verdict(2 << 8, 7), Ok(Verdict::Same));
+        assert_eq!(unpack_verdict(3 << 8 | 3 << 40, 7), Ok(Verdict::Wound(3)));
+        assert_eq!(unpack_verdict(9 | 5 << 8, 7), Err(Refusal::HandedByte(5)));
     }
 
     #[test]
     #[should_panic(expected = "returned 0x10000000400, which this call never answers")]
     fn fourth_verdict() {
-        let _ = unpack_verdict(4 << 8 | 1 << 40);
+        let _ = unpack_verdict(4 << 8 | 1 << 40, 7);
     }
 
     #[test]
     #[should_panic(expected = "returned 0x300, which this call never answers")]
     fn wound_without_marks() {
-        let _ = unpack_verdict(3 << 8);
+        let _ = unpack_verdict(3 << 8, 7);
+    }
+
+    #[test]
+    #[should_panic(expected = "returned 0x70000000100, which this call never answers")]
+    fn off_outside_the_board() {
+        let _ = unpack_verdict(1 << 8 | 7 << 40, 7);
     }
 }

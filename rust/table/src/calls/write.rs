@@ -1,7 +1,8 @@
 //! Writing a text.
 
-use crate::packed::unpack;
-use crate::{Board, Refusal, Sheet, exported};
+use crate::exported::call;
+use crate::packed::{impossible, unpack};
+use crate::{Board, Refusal, Sheet};
 
 /// Writes the one text of a sheet to the front of a buffer, touches no byte after it, and answers
 /// with its byte count.
@@ -28,23 +29,38 @@ use crate::{Board, Refusal, Sheet, exported};
 #[must_use = "a refusal has written nothing"]
 pub fn write(sheet: Sheet<'_>, text: &mut [u8]) -> Result<usize, Refusal> {
     let Sheet { board: Board { vertices, ends, marks }, syndrome, loss } = sheet;
-    // SAFETY: each pointer is a slice's, with its length; the one that is written is borrowed
-    // mutably, so it overlaps nothing.
-    let returned = unsafe {
-        exported::surface_write(
-            vertices,
-            ends.as_ptr(),
-            ends.len(),
-            marks.as_ptr(),
-            marks.len(),
-            syndrome.as_ptr(),
-            syndrome.len(),
-            loss.as_ptr(),
-            loss.len(),
-            text.as_mut_ptr(),
-            text.len(),
-        )
-    };
-    let (bytes, _) = unpack(returned)?;
-    Ok(bytes as usize)
+    let returned = call!(surface_write(vertices; ends, marks, syndrome, loss; text));
+    unpack_bytes(returned, text.len())
+}
+
+/// The byte count, within a buffer of this length, that a returned number stands for.
+fn unpack_bytes(returned: u64, length: usize) -> Result<usize, Refusal> {
+    match unpack(returned, &[1, 2, 3, 4, 5, 6, 7, 8, 12, 14])? {
+        (bytes, 0) if bytes <= length => Ok(bytes),
+        _ => impossible(returned),
+    }
+}
+
+#[cfg(test)]
+mod tests {
+    use super::unpack_bytes;
+    use crate::Refusal;
+
+    #[test]
+    fn each_answer() {
+        assert_eq!(unpack_bytes(24 << 8, 24), Ok(24));
+        assert_eq!(unpack_bytes(14, 23), Err(Refusal::TextBuffer));
+    }
+
+    #[test]
+    #[should_panic(expected = "returned 0x1800, which this call never answers")]
+    fn text_past_the_buffer() {
+        let _ = unpack_bytes(24 << 8, 23);
+    }
+
+    #[test]
+    #[should_panic(expected = "returned 0x10000001800, which this call never answers")]
+    fn second_value() {
+        let _ = unpack_bytes(24 << 8 | 1 << 40, 24);
+    }
 }
