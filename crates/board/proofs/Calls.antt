@@ -11,7 +11,8 @@ use Rattle.model.specs.Sums.{orElse}
 use Rattle.model.specs.Board.{Board, Sheet, Valid, ValidBytes, ValidSheet, edges, edgeLimit}
 use Rattle.model.specs.Refusals.{Rule, refusalOf, edgesOf, sized, sheetRules, handedRule, decodeRefusal, verdictRefusal, distanceRefusal}
 use Rattle.model.proofs.Xor.{and-left, and-right, and-both}
-use Rattle.board.proofs.Failures.{refusal-append, neither-fails, each-passes, passes-each}
+use Rattle.model.proofs.RuleLists.{refusal-append}
+use Rattle.board.proofs.Failures.{neither-fails, each-passes, passes-each}
 use Rattle.board.proofs.Passing.{bytes-say, say-bytes}
 use Rattle.board.proofs.Validity.{board-passes, sheet-passes, passes-sheet, long-enough, enough-long}
 

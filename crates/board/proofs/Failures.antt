@@ -1,6 +1,6 @@
 -- The first failure of a list of rules, found in its parts. Assumes nothing.
 use mathlib.Core.Path.{_≡_, refl}
-use mathlib.Core.List.{List, [], _∷_, _++_, map}
+use mathlib.Core.List.{List, [], _∷_, map}
 use mathlib.Core.Option.{none, some, Option·some-ne-none}
 use Rattle.model.specs.declared.refusal.Refusal.{Refusal}
 use Rattle.model.specs.Sums.{orElse}
@@ -8,16 +8,6 @@ use Rattle.model.specs.Refusals.{Rule, Test, tested, firstFailure, refusalOf}
 use Rattle.board.specs.declared.outcome.Check.{Check}
 use Rattle.board.specs.declared.outcome.Check.the-variants.{Passed, Failed}
 use Rattle.board.specs.Checks.{testOf}
-
--- of two lists the first decides, unless nothing of it fails
-pub refusal-append : (rs qs : List Rule) → refusalOf (rs ++ qs) ≡ orElse (refusalOf rs) (refusalOf qs)
-refusal-append [] qs = refl
-refusal-append (R ∷ rs) qs = go (tested R) (refusal-append rs qs)
-  where
-    go : (t : Test) → refusalOf (rs ++ qs) ≡ orElse (refusalOf rs) (refusalOf qs)
-        → firstFailure (t ∷ map tested (rs ++ qs)) ≡ orElse (firstFailure (t ∷ map tested rs)) (refusalOf qs)
-    go none p = p
-    go (some n) p = refl
 
 pub neither-fails : (t u : Test) → orElse t u ≡ none → (t ≡ none) × (u ≡ none)
 neither-fails none u p = (refl, p)

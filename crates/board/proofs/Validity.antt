@@ -12,7 +12,8 @@ use Rattle.model.specs.Sums.{orElse}
 use Rattle.model.specs.Board.{Board, Sheet, Valid, ValidSheet, edges, vertexLimit, edgeLimit}
 use Rattle.model.specs.Refusals.{Rule, refusalOf, edgesOf, sized, countRules, edgeRules, boardRules, byteRules, bytesSized, sheetRules}
 use Rattle.model.proofs.Xor.{and-left, and-right, and-both}
-use Rattle.board.proofs.Failures.{refusal-append, neither-fails, each-passes, passes-each}
+use Rattle.model.proofs.RuleLists.{refusal-append}
+use Rattle.board.proofs.Failures.{neither-fails, each-passes, passes-each}
 use Rattle.board.proofs.Passing.{Counted, counts-say, say-counts, edges-say, say-edges, bytes-say, say-bytes}
 
 -- A board lent with other buffers: it is valid, and each of those has its length.

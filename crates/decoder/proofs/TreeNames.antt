@@ -1,5 +1,5 @@
 -- The labels of the trees, vertex after vertex: by each root stands the first vertex met of its tree. Assumes nothing.
-use Prim.Native.Nat.{ℕ, zero, suc, _≤_, _<_}
+use Prim.Native.Nat.{ℕ, suc, _≤_, _<_}
 use mathlib.Core.Path.{_≡_, refl, sym, ap, _∙_}
 use mathlib.Core.Logic.{_⊎_, inl, inr, ⊎-elim}
 use mathlib.Core.List.{List}
@@ -11,6 +11,7 @@ use lib.Seq.{getD-set-same, getD-set-other}
 use borrow.Author.Tests.{eq-eqb, ne-eqb}
 use Rattle.model.specs.Board.{vertexLimit}
 use Rattle.model.specs.Components.{label}
+use Rattle.model.proofs.ListLaws.{zero-everywhere}
 use Rattle.model.proofs.SumLaws.{below-suc}
 use Rattle.union_find.specs.Trees.{rootOf}
 use Rattle.decoder.specs.TreeLabels.{Smallest, Names, Marks}
@@ -112,17 +113,12 @@ module _ (k : ℕ) (parent first labels : List ℕ) (w : Naming k parent first l
 
 -- The vertices of one tree
 
-zeros : (n u : ℕ) → _≡_ {A = ℕ} (getD (replicate n 0) u 0) 0
-zeros zero u = refl
-zeros (suc n) zero = refl
-zeros (suc n) (suc u) = zeros n u
-
 pub mark-none : (parent : List ℕ) (r n : ℕ) → n ≡ vertexLimit → Marks 0 parent r (replicate n 0)
 mark-none parent r n p =
     record {
       long = length-replicate n 0 ∙ p;
       at = λ u h. absurd (not-suc-le-zero h);
-      others = λ u h. zeros n u;
+      others = λ u h. zero-everywhere n u;
     }
 
 module _ (k : ℕ) (parent : List ℕ) (r : ℕ) (marks : List ℕ) (w : Marks k parent r marks) where

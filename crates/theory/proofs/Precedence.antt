@@ -4,17 +4,18 @@ use Prim.Native.Nat.{ℕ, _≤_, _<_}
 use mathlib.Core.Path.{_≡_, refl, sym, ap, _∙_}
 use mathlib.Core.Bool.{Bool, true, false, true≢false, _||_}
 use mathlib.Core.Logic.{_↔_, _≢_}
-use mathlib.Core.List.{List, [], _∷_, _++_, map}
+use mathlib.Core.List.{List, [], _∷_, _++_}
 use mathlib.Core.Option.{Option, none, some, Option·none-ne-some, Option·some-ne-none}
 use native.Mathlib.Omega.{arith}
 use borrow.Author.Tests.{eq-eqb}
 use lib.Dec.{eqb}
 use Rattle.model.specs.declared.refusal.Refusal.{Refusal}
-use Rattle.model.specs.Sums.{Set, orElse, firstUpTo}
-use Rattle.model.specs.Refusals.{Rule, whole, each, Test, refusedAt, tested, firstFailure, refusalOf, numberOf, placeOf}
+use Rattle.model.specs.Sums.{Set, firstUpTo}
+use Rattle.model.specs.Refusals.{Rule, whole, each, Test, refusedAt, tested, refusalOf, numberOf, placeOf}
 use Rattle.model.specs.Outcomes.{answer}
 use Rattle.model.specs.Precedence.{Broken, Applies, here, there, NoneApplies, BrokenFirst, Decides, HasNumber, HaveNumbers, Numbered}
 use Rattle.model.proofs.SumLaws.{First, none-first, first-found}
+use Rattle.model.proofs.RuleLists.{refusal-append}
 
 -- One rule
 
@@ -120,16 +121,6 @@ none-exactly (R ∷ rules) = (
     passes later none e p r (there a) = later (sym (rest-decides R rules e) ∙ p) r a
     passes later (some q) e p r a = absurd (Option·some-ne-none q (sym (first-decides R rules q e) ∙ p))
 
--- of two lists the first decides, unless nothing of it applies
-append-decides : (front back : List Rule) → refusalOf (front ++ back) ≡ orElse (refusalOf front) (refusalOf back)
-append-decides [] back = refl
-append-decides (R ∷ front) back = go (tested R) (append-decides front back)
-  where
-    go : (t : Test) → refusalOf (front ++ back) ≡ orElse (refusalOf front) (refusalOf back)
-        → firstFailure (t ∷ map tested (front ++ back)) ≡ orElse (firstFailure (t ∷ map tested front)) (refusalOf back)
-    go none e = e
-    go (some r) e = refl
-
 -- a rule of a numbered list has a number
 numbered-rule : (ns : List ℕ) (before : List Rule) (R : Rule) (after : List Rule) → HaveNumbers ns (before ++ (R ∷ after))
     → (n : ℕ) × HasNumber n R
@@ -143,7 +134,7 @@ decides-given ns rules h r d =
     let h : HaveNumbers ns (d .before ++ (d .rule ∷ d .after)) = rw (d .split) at h in
     let k = numbered-rule ns (d .before) (d .rule) (d .after) h in
     ap refusalOf (d .split)
-    ∙ append-decides (d .before) (d .rule ∷ d .after)
+    ∙ refusal-append (d .before) (d .rule ∷ d .after)
     ∙ rw (none-exactly (d .before) .1 (d .none-before))
     (first-decides (d .rule) (d .after) r (first-tested (k .0) (d .rule) (k .1) r (d .first)))
 
@@ -199,7 +190,7 @@ earlier-kept front back r p others = go (refusalOf front) refl
     go : (t : Test) → refusalOf front ≡ t → NoneApplies front
     go none e = none-exactly front .0 e
     go (some q) e =
-        let given : some q ≡ some r = rw e at (sym (append-decides front back) ∙ p) in
+        let given : some q ≡ some r = rw e at (sym (refusal-append front back) ∙ p) in
         let same : q ≡ r = cc in
         absurd (others q (refused-applies front q e) (ap numberOf same))
 
