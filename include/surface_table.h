@@ -15,8 +15,8 @@
  * lent to several of them at the same time.
  *
  * A board has `vertices` vertices, numbered from 0, and edges numbered from 0: two `ends` for each
- * edge, and one of `marks`, 0 to 3. `syndrome` has a byte for each vertex and `loss` a byte for each
- * edge, each 0 or 1.
+ * edge, and one of `marks`, 0 to 3. The two ends may be one vertex: such a loop edge adds nothing to
+ * any syndrome. `syndrome` has a byte for each vertex and `loss` a byte for each edge, each 0 or 1.
  */
 #ifndef SURFACE_TABLE_H
 #define SURFACE_TABLE_H
@@ -30,7 +30,7 @@ extern "C" {
 
 /* Raised by one whenever a call changes: its parameters, its tests or its answers, or a call more or
  * less. Programs and library must be built from one version; nothing else keeps them together. */
-#define SURFACE_VERSION 1
+#define SURFACE_VERSION 2
 
 /* The largest number of vertices and of edges of a board, and of bytes of a text. */
 #define SURFACE_VERTICES 1024
@@ -55,14 +55,13 @@ static inline uint32_t surface_second(uint64_t returned) { return (uint32_t)(ret
 
 /* The refusal's numbers, each with its place. A call that refuses has written nothing. Of all the
  * rules that are broken, the one with the smallest number is returned, at its smallest place;
- * surface_torus alone tests 11 before 3. */
+ * surface_torus alone tests 11 before 3. Number 5 is not in use. */
 enum surface_refusal_number {
     SURFACE_NOT_REFUSED = 0,
     SURFACE_REFUSED_VERTEX_COUNT = 1,    /* place 0 */
     SURFACE_REFUSED_END_COUNT = 2,       /* place 0; of a board that is given */
     SURFACE_REFUSED_BUFFER_LENGTH = 3,   /* place 0 */
     SURFACE_REFUSED_END_RANGE = 4,       /* the edge */
-    SURFACE_REFUSED_EQUAL_ENDS = 5,      /* the edge */
     SURFACE_REFUSED_MARK_RANGE = 6,      /* the edge */
     SURFACE_REFUSED_SYNDROME_BYTE = 7,   /* the vertex */
     SURFACE_REFUSED_LOSS_BYTE = 8,       /* the edge */
@@ -85,13 +84,12 @@ static inline const char *surface_refusal_text(unsigned number)
     case SURFACE_REFUSED_END_COUNT: return "the count of ends is odd or above 8,192";
     case SURFACE_REFUSED_BUFFER_LENGTH: return "a lent buffer has the wrong length";
     case SURFACE_REFUSED_END_RANGE: return "the edge has an end at or above the vertex count";
-    case SURFACE_REFUSED_EQUAL_ENDS: return "the edge has equal ends";
     case SURFACE_REFUSED_MARK_RANGE: return "the edge has a mark above 3";
     case SURFACE_REFUSED_SYNDROME_BYTE: return "the vertex has a syndrome byte above 1";
     case SURFACE_REFUSED_LOSS_BYTE: return "the edge has a loss byte above 1";
     case SURFACE_REFUSED_HANDED_BYTE: return "the edge has a handed-in byte above 1";
     case SURFACE_REFUSED_NO_CORRECTION: return "no correction: the vertex is the smallest of all odd parts";
-    case SURFACE_REFUSED_TORUS_SIDE: return "the side is outside 2 to 32";
+    case SURFACE_REFUSED_TORUS_SIDE: return "the side is outside 1 to 32";
     case SURFACE_REFUSED_TEXT_LENGTH: return "the text has more than 65,536 bytes";
     case SURFACE_REFUSED_MALFORMED_LINE: return "the line is malformed";
     case SURFACE_REFUSED_TEXT_BUFFER: return "the buffer is shorter than the text";
@@ -140,7 +138,7 @@ uint64_t surface_distance(size_t vertices,
                           const uint8_t *marks, size_t marks_count,
                           uint8_t *shown, size_t shown_count);
 
-/* Fills the ends and marks of the torus of a side, 2 to 32: exactly 4 side² ends and 2 side² marks.
+/* Fills the ends and marks of the torus of a side, 1 to 32: exactly 4 side² ends and 2 side² marks.
  * First value: the vertex count. */
 uint64_t surface_torus(uint32_t side,
                        uint16_t *ends, size_t ends_count,

@@ -1,29 +1,30 @@
-/* Builds the torus of side 2 and lists its edges; no torus has side 33.
+/* Builds the tori of sides 1 and 2 and lists their edges; both edges of side 1 return to its one vertex. No torus has side 33.
  *
  *     rt staticlib table
  *     cc -Iinclude examples/c/torus.c target/staticlib/libtable.a -o target/example && target/example
  */
 #include "refused.h"
 
-enum { SIDE = 2, EDGES = 2 * SIDE * SIDE };
+enum { ROOM = 8 };
 
-static void build(uint32_t side)
+static void build(uint32_t side, size_t edges)
 {
-    uint16_t ends[2 * EDGES];
-    uint8_t marks[EDGES];
-    uint64_t built = surface_torus(side, ends, 2 * EDGES, marks, EDGES);
+    uint16_t ends[2 * ROOM];
+    uint8_t marks[ROOM];
+    uint64_t built = surface_torus(side, ends, 2 * edges, marks, edges);
     if (surface_refusal(built) != SURFACE_NOT_REFUSED) {
         print_refusal(built);
         return;
     }
-    printf("vertices %" PRIu32 "\n", surface_first(built));
-    for (int edge = 0; edge < EDGES; edge++)
-        printf("edge %d: %d to %d, mark %d\n", edge, ends[2 * edge], ends[2 * edge + 1], marks[edge]);
+    printf("side %" PRIu32 ", vertices %" PRIu32 "\n", side, surface_first(built));
+    for (size_t edge = 0; edge < edges; edge++)
+        printf("edge %zu: %d to %d, mark %d\n", edge, ends[2 * edge], ends[2 * edge + 1], marks[edge]);
 }
 
 int main(void)
 {
-    build(SIDE);
-    build(33);
+    build(1, 2);
+    build(2, ROOM);
+    build(33, ROOM);
     return 0;
 }

@@ -179,10 +179,15 @@ static void long_path(void)
     measure_board();
 }
 
-/* One vertex without an edge, and none. */
+/* The torus of side 1, whose edges are loop edges; one vertex without an edge, and none. */
 static void smallest(void)
 {
+    side = 1;
     vertices = 1;
+    edges = 2;
+    measure(TORUS);
+    light_and_lose();
+    measure_board();
     edges = 0;
     memset(syndrome, 0, sizeof syndrome);
     measure_board();

@@ -14,18 +14,20 @@ static void hold(int kept, const char *what)
     }
 }
 
-/* Each number up to the last has a sentence of its own, and numbers past it share one more. */
+/* Each number up to the last has a sentence of its own, but for 5, which is not in use: it and the numbers past the last share one more. */
 static void hold_sentences(void)
 {
     const char *none = surface_refusal_text(SURFACE_REFUSED_TEXT_BUFFER + 1);
-    for (unsigned number = 0; number <= SURFACE_REFUSED_TEXT_BUFFER; number++) {
+    for (unsigned number = 0; number <= 256; number++) {
         const char *text = surface_refusal_text(number);
+        if (number == 5 || number > SURFACE_REFUSED_TEXT_BUFFER) {
+            hold(strcmp(text, none) == 0, "a number that no refusal has");
+            continue;
+        }
         hold(strlen(text) > 0 && strcmp(text, none) != 0, "a number without its sentence");
         for (unsigned smaller = 0; smaller < number; smaller++)
             hold(strcmp(text, surface_refusal_text(smaller)) != 0, "two numbers with one sentence");
     }
-    for (unsigned number = SURFACE_REFUSED_TEXT_BUFFER + 1; number <= 256; number++)
-        hold(strcmp(surface_refusal_text(number), none) == 0, "a number that no refusal has");
 }
 
 int main(void)

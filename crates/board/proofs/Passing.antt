@@ -5,14 +5,14 @@ use mathlib.Core.Bool.{Bool, true, false, _&&_, _||_, true≢false}
 use mathlib.Core.List.{List}
 use mathlib.Core.Option.{Option, none, some, Option·some-ne-none}
 use native.Mathlib.Omega.{arith}
-use borrow.Author.Tests.{leb-true, leb-false, ltb-false, eqb-true, eqb-false, le-leb, lt-leb, le-ltb, eq-eqb, ne-eqb}
+use borrow.Author.Tests.{leb-true, leb-false, ltb-false, eqb-true, le-leb, lt-leb, le-ltb, eq-eqb}
 use lib.ListN.{length}
 use lib.Dec.{eqb, leb}
 use Rattle.model.specs.declared.refusal.Refusal.{Refusal}
-use Rattle.model.specs.declared.refusal.Refusal.the-variants.{VertexCount, EndCount, BufferLength, EndRange, EqualEnds, MarkRange}
+use Rattle.model.specs.declared.refusal.Refusal.the-variants.{VertexCount, EndCount, BufferLength, EndRange, MarkRange}
 use Rattle.model.specs.Sums.{Set, firstUpTo}
 use Rattle.model.specs.Board.{Board, Valid, ValidBytes, edges, firstEnd, vertexLimit, edgeLimit}
-use Rattle.model.specs.Refusals.{unless, refusedAt, firstPlace, outside, endsEqual, above, edgesOf, countRules, edgeRules}
+use Rattle.model.specs.Refusals.{unless, refusedAt, firstPlace, outside, above, edgesOf, countRules, edgeRules}
 use Rattle.model.proofs.Xor.{and-left, and-right, and-both}
 use Rattle.model.proofs.SumLaws.{first-none, none-first}
 use Rattle.board.proofs.Failures.{Each}
@@ -76,12 +76,11 @@ say-counts vertices ends fit k = (
   ),
 )
 
--- what the tests 4 to 6 say of a board whose counts have passed: it is valid
+-- what the tests 4 and 6 say of a board whose counts have passed: it is valid
 pub edges-say : (B : Board) (fit : Bool) → Counted (B .vertices) (B .ends) fit → length (B .marks) ≡ edgesOf (B .ends) → Each (edgeRules B) → Valid B
 edges-say B fit k long t =
     let inside = place-passes (edges B) (outside B) (λ e. EndRange (record { 0 = e })) (t .0) in
-    let differ = place-passes (edges B) (endsEqual B) (λ e. EqualEnds (record { 0 = e })) (t .1 .0) in
-    let small = place-passes (edges B) (above 3 (B .marks)) (λ e. MarkRange (record { 0 = e })) (t .1 .1 .0) in
+    let small = place-passes (edges B) (above 3 (B .marks)) (λ e. MarkRange (record { 0 = e })) (t .1 .0) in
     record {
       some-vertex = k .some-vertex;
       inside =
@@ -92,17 +91,13 @@ edges-say B fit k long t =
             first-in-range = λ e h. leb-false _ _ (or-left (leb (B .vertices) (firstEnd B e)) _ (inside e h));
             second-in-range = λ e h. leb-false _ _ (or-right (leb (B .vertices) (firstEnd B e)) _ (inside e h));
           };
-      ends-differ = λ e h. eqb-false _ _ (differ e h);
       mark-in-range = λ e h. ltb-false _ _ (small e h);
     }
 
 pub say-edges : (B : Board) → Valid B → Each (edgeRules B)
 say-edges B v = (
   passes-place (edges B) (outside B) _ (λ e h. neither _ _ (lt-leb _ _ (v .inside .first-in-range e h)) (lt-leb _ _ (v .inside .second-in-range e h))),
-  (
-    passes-place (edges B) (endsEqual B) _ (λ e h. ne-eqb _ _ (v .ends-differ e h)),
-    (passes-place (edges B) (above 3 (B .marks)) _ (λ e h. le-ltb _ _ (v .mark-in-range e h)), tt),
-  ),
+  (passes-place (edges B) (above 3 (B .marks)) _ (λ e h. le-ltb _ _ (v .mark-in-range e h)), tt),
 )
 
 -- what the tests 7, 8 and 9 say of their bytes

@@ -7,7 +7,7 @@ ghost use Prim.Native.Nat.{_*_, _≤_};
 ghost use lib.ListN.{length};
 ghost use Rattle.model.specs.Board.{edgeLimit, unmarked};
 ghost use Rattle.model.specs.Lent.{before};
-ghost use Rattle.model.specs.Refusals.{edgesOf, outside, endsEqual};
+ghost use Rattle.model.specs.Refusals.{edgesOf, outside};
 ghost use Rattle.model.specs.Sums.{firstUpTo};
 ghost use Rattle.board.specs.Checks.{edgeFound};
 
@@ -24,26 +24,6 @@ pub fn first_outside(vertices: usize, ends: &[u16]) -> FoundEdge
         let first = first_end(ends, edge);
         let second = second_end(ends, edge);
         if first.0 as usize >= vertices || second.0 as usize >= vertices {
-            return FoundEdge::At(edge);
-        }
-        e += 1;
-    }
-    FoundEdge::Nothing
-}
-
-// Test 5: the first edge whose ends are equal.
-pub fn first_equal(ends: &[u16]) -> FoundEdge
-    requires { ⌜ length (now ends) ≤ 2 * edgeLimit ⌝ }
-    ensures { λ r. ⌜ edgeFound r ≡ firstUpTo (edgesOf (before ends)) (endsEqual (unmarked 0 0 (before ends))) ⌝ }
-{
-    let edges = ends.len() / 2;
-    let mut e = 0;
-    while e < edges {
-        let number = e as u16;
-        let edge = Edge(number);
-        let first = first_end(ends, edge);
-        let second = second_end(ends, edge);
-        if first.0 == second.0 {
             return FoundEdge::At(edge);
         }
         e += 1;

@@ -1,7 +1,6 @@
 use crate::bytes::edge_above;
 use crate::bytes::vertex_above;
 use crate::counts::check_counts;
-use crate::ends::first_equal;
 use crate::ends::first_outside;
 use crate::outcome::Check;
 use crate::outcome::FoundEdge;
@@ -15,16 +14,13 @@ ghost use Rattle.model.specs.Lent.{before, boardLent, sheetLent};
 ghost use Rattle.model.specs.Refusals.{refusalOf, edgesOf, edgeRules, byteRules, boardRules, sheetRules, decodeRefusal, verdictRefusal};
 ghost use Rattle.board.specs.Checks.{testOf};
 
-// The tests 4 to 6, once the counts have passed.
+// The tests 4 and 6, once the counts have passed.
 fn check_edges(vertices: usize, ends: &[u16], marks: &[u8]) -> Check
     requires { ⌜ (length (now ends) ≤ 2 * edgeLimit) × (length (now marks) ≡ edgesOf (now ends)) ⌝ }
     ensures { λ r. ⌜ testOf r ≡ refusalOf (edgeRules (boardLent vertices ends marks)) ⌝ }
 {
     if let FoundEdge::At(e) = first_outside(vertices, ends) {
         return Check::Failed(Refusal::EndRange(e));
-    }
-    if let FoundEdge::At(e) = first_equal(ends) {
-        return Check::Failed(Refusal::EqualEnds(e));
     }
     if let FoundEdge::At(e) = edge_above(marks, 3) {
         return Check::Failed(Refusal::MarkRange(e));
@@ -46,7 +42,7 @@ fn check_bytes(syndrome: &[u8], loss: &[u8]) -> Check
     Check::Passed
 }
 
-// The tests 1 to 6 of a board; `others` says whether each buffer lent beside it has its length.
+// The tests 1 to 4 and 6 of a board; `others` says whether each buffer lent beside it has its length.
 pub fn check_board(vertices: usize, ends: &[u16], marks: &[u8], others: bool) -> Check
     ensures { λ r. ⌜ testOf r ≡ refusalOf (boardRules (boardLent vertices ends marks) others) ⌝ }
 {
@@ -57,7 +53,7 @@ pub fn check_board(vertices: usize, ends: &[u16], marks: &[u8], others: bool) ->
     check_edges(vertices, ends, marks)
 }
 
-// The tests 1 to 8 of a sheet; `others` says whether each buffer lent beside it has its length.
+// The tests 1 to 4 and 6 to 8 of a sheet; `others` says whether each buffer lent beside it has its length.
 pub fn check_sheet(
     vertices: usize,
     ends: &[u16],

@@ -48,7 +48,6 @@ padded-valid valid =
     record {
       some-vertex = omega arith;
       inside = within-limit (valid .inside);
-      ends-differ = valid .ends-differ;
       mark-in-range = valid .mark-in-range;
     }
 

@@ -1,5 +1,5 @@
-// Distances: the marked sheets' boards, parallel edges, boards without a winding loop, tori, rings up to the limits, and every
-// refusal with the buffer it left.
+// Distances: the marked sheets' boards, parallel edges, loop edges, boards without a winding loop, tori, rings up to the limits, and
+// every refusal with the buffer it left.
 use libc::STDOUT_FILENO;
 use model::answers::Built;
 use model::answers::Distance;
@@ -11,6 +11,7 @@ ghost use lib.ListN.{length};
 fn main() {
     marked_boards();
     parallel_edges();
+    loop_edges();
     several_loops();
     no_winding_loop();
     tori();
@@ -36,6 +37,16 @@ fn parallel_edges() {
     board(b"2 2 3", 2, b"010110", b"223");
 }
 
+// A marked loop edge is a winding loop by itself, wherever it stands; one without a mark shortens nothing.
+fn loop_edges() {
+    board(b"loop 0", 1, b"00", b"0");
+    board(b"loop 3", 1, b"00", b"3");
+    board(b"two loops", 1, b"0000", b"22");
+    board(b"later loop", 4, b"0112233022", b"00013");
+    board(b"unmarked loop", 4, b"0112233022", b"00010");
+    board(b"apart loop", 3, b"011022", b"012");
+}
+
 // The shortest loop is not at the first vertex, or is a part of its own, or shares edges with one that does not wind.
 fn several_loops() {
     board(b"later", 5, b"011223303443", b"000102");
@@ -52,8 +63,9 @@ fn no_winding_loop() {
     board(b"edge", 3, b"02", b"3");
 }
 
-// Tori of side 2 to 8, and of the largest side.
+// Tori of side 1 to 8, and of the largest side.
 fn tori() {
+    sheet(Filling::Torus, 1, 4, 2, 2);
     sheet(Filling::Torus, 2, 16, 8, 8);
     sheet(Filling::Torus, 3, 36, 18, 18);
     sheet(Filling::Torus, 4, 64, 32, 32);
@@ -72,8 +84,8 @@ fn rings() {
     sheet(Filling::Ring, 1024, 8192, 4096, 4096);
 }
 
-// Numbers 1, 2 and 3 on both sides of their limits. All ends are 0: what passes these tests is refused by number 5, or has no
-// edge.
+// Numbers 1, 2 and 3 on both sides of their limits. All ends and marks are 0: what passes these tests has no edges but loop edges, none
+// of them marked.
 fn counts_refused() {
     sheet(Filling::Zeros, 0, 0, 0, 0);
     sheet(Filling::Zeros, 1, 0, 0, 0);
@@ -89,11 +101,12 @@ fn counts_refused() {
     sheet(Filling::Zeros, 2, 4, 2, 3);
 }
 
-// Numbers 4, 5 and 6: the smallest number wins, then the first edge.
+// Numbers 4 and 6: the smallest number wins, then the first edge. Equal ends break no rule of their own.
 fn edges_refused() {
     board(b"first end", 3, b"013299", b"004");
     board(b"second end", 3, b"012213", b"040");
     board(b"equal", 3, b"012211", b"400");
+    board(b"equal outside", 3, b"013311", b"400");
     board(b"mark", 3, b"011220", b"394");
     board(b"last mark", 3, b"011220", b"304");
 }

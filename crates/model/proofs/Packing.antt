@@ -5,7 +5,7 @@ use mathlib.Core.Path.{_≡_, refl}
 use native.Mathlib.Omega.{arith}
 use borrow.Author.Tests.{ne-eqb}
 use Rattle.model.specs.declared.refusal.Refusal.{Refusal}
-use Rattle.model.specs.declared.refusal.Refusal.the-variants.{VertexCount, EndCount, BufferLength, EndRange, EqualEnds, MarkRange, SyndromeByte, LossByte, HandedByte, NoCorrection, TorusSide, TextLength, MalformedLine, TextBuffer}
+use Rattle.model.specs.declared.refusal.Refusal.the-variants.{VertexCount, EndCount, BufferLength, EndRange, MarkRange, SyndromeByte, LossByte, HandedByte, NoCorrection, TorusSide, TextLength, MalformedLine, TextBuffer}
 use Rattle.model.specs.Refusals.{numberOf, placeOf}
 use Rattle.model.specs.Packing.{packed, packedRefusal, refusalNumber, placeIn, firstValue, secondValue, unpackedRefusal, unpacked}
 
@@ -26,7 +26,6 @@ numbered VertexCount = (omega arith, omega arith)
 numbered EndCount = (omega arith, omega arith)
 numbered BufferLength = (omega arith, omega arith)
 numbered (EndRange e) = (omega arith, omega arith)
-numbered (EqualEnds e) = (omega arith, omega arith)
 numbered (MarkRange e) = (omega arith, omega arith)
 numbered (SyndromeByte v) = (omega arith, omega arith)
 numbered (LossByte e) = (omega arith, omega arith)
@@ -49,7 +48,6 @@ by-number VertexCount = refl
 by-number EndCount = refl
 by-number BufferLength = refl
 by-number (EndRange e) = refl
-by-number (EqualEnds e) = refl
 by-number (MarkRange e) = refl
 by-number (SyndromeByte v) = refl
 by-number (LossByte e) = refl

@@ -1,5 +1,5 @@
--- Document 01, "Text": its example text and what the program prints for it, a text with number 10, and one that doesn't read, each by
--- computation. Assumes nothing.
+-- Document 01, "Text", and document 02, K3: the example text and what the program prints for it, a text with number 10, one with loop edges,
+-- and one that doesn't read, each by computation. Assumes nothing.
 use Prim.Native.Nat.{ℕ}
 use mathlib.Core.Path.{_≡_, refl}
 use mathlib.Core.List.{List, [], _∷_, _++_}
@@ -46,6 +46,13 @@ odd-report = refl
 pub point-report : reportOf (86 ∷ 9 ∷ 49 ∷ 10 ∷ []) ≡ 71 ∷ 9 ∷ 48 ∷ 10 ∷ 68 ∷ 9 ∷ 45 ∷ 10 ∷ []
 unfolding reportOf sheetReport keyReport refusalLine distanceLine edgeLines reportLine decimalUpTo decimal fieldsOf partedBy numberFrom number numbers fromFields lineFrom step readOn readLines readText members oddUpTo countUpTo someUpTo firstUpTo values syndrome closed crossings winds labelsUpTo labels start clusters odd exposed boundary choiceUpTo choice grow growFrom grown takenUpTo forest oddSide correction parts inOddPart smallestOdd growths supports corrected fewestFrom fewest
 point-report = refl
+
+-- the torus of side 1, V 1, E 0 0 1, E 0 0 2: G 0, D 1
+pub loops-report :
+    reportOf ((86 ∷ 9 ∷ 49 ∷ 10 ∷ []) ++ (69 ∷ 9 ∷ 48 ∷ 9 ∷ 48 ∷ 9 ∷ 49 ∷ 10 ∷ []) ++ (69 ∷ 9 ∷ 48 ∷ 9 ∷ 48 ∷ 9 ∷ 50 ∷ 10 ∷ []))
+    ≡ 71 ∷ 9 ∷ 48 ∷ 10 ∷ 68 ∷ 9 ∷ 49 ∷ 10 ∷ []
+unfolding reportOf sheetReport keyReport refusalLine distanceLine edgeLines reportLine decimalUpTo decimal fieldsOf partedBy numberFrom number numbers fromFields lineFrom step readOn readLines readText members oddUpTo countUpTo someUpTo firstUpTo values syndrome closed crossings winds labelsUpTo labels start clusters odd exposed boundary choiceUpTo choice grow growFrom grown takenUpTo forest oddSide correction parts inOddPart smallestOdd growths supports corrected fewestFrom fewest
+loops-report = refl
 
 -- an S line twice: N 13 7
 pub repeated-report : reportOf (ring ++ lit3 ++ lit3) ≡ 78 ∷ 9 ∷ 49 ∷ 51 ∷ 9 ∷ 55 ∷ 10 ∷ []

@@ -12,20 +12,20 @@ use Rattle.model.specs.Precedence.{Numbered}
 its-place : (k i : ℕ) → (k ≡ k) × (i ≡ i)
 its-place k i = (refl, refl)
 
-pub distance-numbers : (B : Board) (shown : List ℕ) → Numbered (1 ∷ 2 ∷ 3 ∷ 4 ∷ 5 ∷ 6 ∷ []) (distanceRules B shown)
+pub distance-numbers : (B : Board) (shown : List ℕ) → Numbered (1 ∷ 2 ∷ 3 ∷ 4 ∷ 6 ∷ []) (distanceRules B shown)
 unfolding distanceRules
-distance-numbers B shown = record { in-turn = (refl, (refl, (refl, (its-place 4, (its-place 5, (its-place 6, tt)))))) }
+distance-numbers B shown = record { in-turn = (refl, (refl, (refl, (its-place 4, (its-place 6, tt))))) }
 
 pub decode-numbers : (X : Sheet) (support correction : List ℕ)
-    → Numbered (1 ∷ 2 ∷ 3 ∷ 4 ∷ 5 ∷ 6 ∷ 7 ∷ 8 ∷ []) (decodeRules X support correction)
+    → Numbered (1 ∷ 2 ∷ 3 ∷ 4 ∷ 6 ∷ 7 ∷ 8 ∷ []) (decodeRules X support correction)
 unfolding decodeRules
 decode-numbers X support correction =
-    record { in-turn = (refl, (refl, (refl, (its-place 4, (its-place 5, (its-place 6, (its-place 7, (its-place 8, tt)))))))) }
+    record { in-turn = (refl, (refl, (refl, (its-place 4, (its-place 6, (its-place 7, (its-place 8, tt))))))) }
 
-pub verdict-numbers : (X : Sheet) (handed : List ℕ) → Numbered (1 ∷ 2 ∷ 3 ∷ 4 ∷ 5 ∷ 6 ∷ 7 ∷ 8 ∷ 9 ∷ []) (verdictRules X handed)
+pub verdict-numbers : (X : Sheet) (handed : List ℕ) → Numbered (1 ∷ 2 ∷ 3 ∷ 4 ∷ 6 ∷ 7 ∷ 8 ∷ 9 ∷ []) (verdictRules X handed)
 unfolding verdictRules
 verdict-numbers X handed =
-    record { in-turn = (refl, (refl, (refl, (its-place 4, (its-place 5, (its-place 6, (its-place 7, (its-place 8, (its-place 9, tt))))))))) }
+    record { in-turn = (refl, (refl, (refl, (its-place 4, (its-place 6, (its-place 7, (its-place 8, (its-place 9, tt)))))))) }
 
 pub torus-numbers : (L : ℕ) (ends marks : List ℕ) → Numbered (11 ∷ 3 ∷ []) (torusRules L ends marks)
 unfolding torusRules
@@ -36,7 +36,7 @@ unfolding readRules
 read-numbers text old = record { in-turn = (refl, (refl, tt)) }
 
 pub write-numbers : (X : Sheet) (buffer : List ℕ)
-    → Numbered (1 ∷ 2 ∷ 3 ∷ 4 ∷ 5 ∷ 6 ∷ 7 ∷ 8 ∷ 12 ∷ 14 ∷ []) (writeRules X buffer)
+    → Numbered (1 ∷ 2 ∷ 3 ∷ 4 ∷ 6 ∷ 7 ∷ 8 ∷ 12 ∷ 14 ∷ []) (writeRules X buffer)
 unfolding writeRules
 write-numbers X buffer =
-    record { in-turn = (refl, (refl, (refl, (its-place 4, (its-place 5, (its-place 6, (its-place 7, (its-place 8, (refl, (refl, tt)))))))))) }
+    record { in-turn = (refl, (refl, (refl, (its-place 4, (its-place 6, (its-place 7, (its-place 8, (refl, (refl, tt))))))))) }

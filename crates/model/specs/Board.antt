@@ -1,13 +1,13 @@
--- Document 01, "Board and loops": what a board is (a multigraph whose edges carry marks), and when what is lent is valid.
+-- Document 01, "Board and loops", and document 02, K3: what a board is (a multigraph whose edges carry marks), and when what is lent is
+-- valid.
 -- Assumes nothing.
 use Prim.Native.Nat.{ℕ, _+_, _*_, _≤_, _<_}
 use mathlib.Core.Path.{_≡_}
-use mathlib.Core.Logic.{_≢_}
 use mathlib.Core.List.{List}
 use lib.ListN.{length, getD, replicate}
 
 -- A multigraph on the vertices 0, 1, .., vertices - 1. Edge e joins entries 2e and 2e + 1 of `ends`, and its mark is entry e of `marks`.
--- Parallel edges are allowed, edges with equal ends are not (`Valid`).
+-- Parallel edges are allowed, and so are loop edges: both ends of one may be the same vertex.
 pub record Board : Type 0 where
   pub vertices : ℕ
   pub ends : List ℕ
@@ -25,6 +25,10 @@ firstEnd B e = getD (B .ends) (2 * e) 0
 
 abbrev pub secondEnd : Board → ℕ → ℕ
 secondEnd B e = getD (B .ends) (2 * e + 1) 0
+
+-- e is a loop edge (K3): its two ends are one vertex
+abbrev pub LoopEdge : Board → ℕ → Type 0
+LoopEdge B e = firstEnd B e ≡ secondEnd B e
 
 -- the mark of edge e, 0 to 3: bit 0 is 1 where e crosses line A, bit 1 is 1 where it crosses line B
 abbrev pub mark : Board → ℕ → ℕ
@@ -49,11 +53,10 @@ pub record EndsWithin (n m : ℕ) (ends : List ℕ) : Type 0 where
 abbrev pub Inside : Board → Type 0
 Inside B = EndsWithin (B .vertices) (edges B) (B .ends)
 
--- a board that breaks none of the rules 1 to 6
+-- a board that breaks none of the rules 1 to 4 and 6
 pub record Valid (B : Board) : Type 0 where
   pub some-vertex : 1 ≤ B .vertices
   pub inside : Inside B
-  pub ends-differ : (e : ℕ) → e < edges B → firstEnd B e ≢ secondEnd B e
   pub mark-in-range : (e : ℕ) → e < edges B → mark B e ≤ 3
 
 -- The board of n vertices and m edges with these ends whose marks are all 0. What looks at no marks (parts, growth, forests) is stated

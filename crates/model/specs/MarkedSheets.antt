@@ -1,5 +1,5 @@
--- Document 01, "Marked sheets": m1 to m9 as theorems about the definitions, and document 02, K2: the vertices that number 10 shows.
--- Gathered as one list, each proved by computation.
+-- Document 01, "Marked sheets": m1 to m9 as theorems about the definitions, and document 02, K2: the vertices that number 10 shows, and K3:
+-- loop edges. Gathered as one list, each proved by computation.
 -- Assumes nothing.
 use Prim.Native.Nat.{ℕ, _+_, _*_}
 use mathlib.Core.Path.{_≡_, refl}
@@ -57,6 +57,14 @@ point = record { vertices = 1; ends = []; marks = [] }
 -- K2: vertex 0 alone, and the edges 2-1 and 4-3, marks 0.
 abbrev pub twoEdges : Board
 twoEdges = record { vertices = 5; ends = 2 ∷ 1 ∷ 4 ∷ 3 ∷ []; marks = 0 ∷ 0 ∷ [] }
+
+-- K3: the edge 0-1, mark 0, between a loop edge at 0, mark 1, and one at 1, mark 2.
+abbrev pub looped : Board
+looped = record { vertices = 2; ends = 0 ∷ 0 ∷ 0 ∷ 1 ∷ 1 ∷ 1 ∷ []; marks = 1 ∷ 0 ∷ 2 ∷ [] }
+
+-- K3: the torus of side 1, entry by entry
+abbrev pub sideOne : Board
+sideOne = record { vertices = 1; ends = 0 ∷ 0 ∷ 0 ∷ 0 ∷ []; marks = 1 ∷ 2 ∷ [] }
 
 -- the table answers with this many growths and this correction
 pub record Keyed (X : Sheet) (steps : ℕ) (edges : List ℕ) : Type 0 where
@@ -123,6 +131,11 @@ m9-lit = sheet point (0 ∷ []) []
 abbrev pub twoOdd : Sheet
 twoOdd = sheet twoEdges (2 ∷ 4 ∷ []) []
 
+-- K3, {0,1}, lost 2: vertex 0 grows twice, after which its own loop edge and the edge 0-1 are full; the correction is {1}. The set
+-- {0,1,2} has the same syndrome, and t + 2s = 5: both of its loop edges count, the lost one in t, the other in s.
+abbrev pub loops : Sheet
+loops = sheet looped (0 ∷ 1 ∷ []) (2 ∷ [])
+
 pub record MarkedSheets : Type 0 where
   pub m1-key : Keyed m1 2 (3 ∷ [])
   pub ring-distance : fewest ring ≡ some 4
@@ -145,6 +158,16 @@ pub record MarkedSheets : Type 0 where
   pub m9-none : NoKey m9-lit 0
   pub m9-distance : fewest point ≡ none
   pub two-odd-none : NoKey twoOdd 1
+  pub loops-key : Keyed loops 2 (1 ∷ [])
+  pub loops-full : EndFull loops (0 ∷ 1 ∷ 2 ∷ [])
+  pub loops-fits : Fits loops (0 ∷ 1 ∷ 2 ∷ [])
+  pub loops-weight : weight loops (0 ∷ 1 ∷ 2 ∷ []) ≡ 5
+  pub loops-gain : grow looped (0 ∷ 0 ∷ 2 ∷ []) (0 ∷ 1 ∷ []) 0 ≡ 2 ∷ 1 ∷ 2 ∷ []
+  pub loops-distance : fewest looped ≡ some 1
+  pub side-one : torus 1 ≡ sideOne
+  pub side-one-key : Keyed (sheet sideOne [] []) 0 []
+  pub side-one-none : NoKey (sheet sideOne (0 ∷ []) []) 0
+  pub side-one-distance : fewest sideOne ≡ some 1
 
 pub marked-sheets : MarkedSheets
 unfolding members setOf sheet oddUpTo countUpTo someUpTo firstUpTo values syndrome closed crossings winds labelsUpTo labels start clusters odd exposed boundary choiceUpTo choice grow growFrom grown takenUpTo forest oddSide correction parts inOddPart smallestOdd growths supports corrected fewestFrom fewest torusEnds torusMarks torus decodeRefusal keyOrNone decodeAnswer
@@ -171,4 +194,14 @@ marked-sheets =
       m9-none = refl;
       m9-distance = refl;
       two-odd-none = refl;
+      loops-key = record { answers = refl; corrects = refl };
+      loops-full = refl;
+      loops-fits = refl;
+      loops-weight = refl;
+      loops-gain = refl;
+      loops-distance = refl;
+      side-one = refl;
+      side-one-key = record { answers = refl; corrects = refl };
+      side-one-none = refl;
+      side-one-distance = refl;
     }

@@ -1,14 +1,13 @@
 -- Document 01, "What form to use where": number and values for each case of an answer. The layout is this project's own, one 64-bit number for
 -- C, with what a caller takes from it (include/surface_table.h): bits 0 to 7 are the refusal's number, or 0; where refused, bits 8 to 63 are
 -- the place; else bits 8 to 39 are a first and bits 40 to 63 a second value. Assumes nothing.
-use Prim.Native.Nat.{ℕ, _+_, _*_, _-_, _/_, _%_, _^_}
+use Prim.Native.Nat.{ℕ, _+_, _*_, _/_, _%_, _^_}
 use mathlib.Core.Bool.{cond}
 use mathlib.Core.List.{List, [], _∷_}
-use lib.ListN.{getD}
 use lib.Dec.{eqb}
 use Rattle.model.specs.Refusals.{numberOf, placeOf}
 use Rattle.model.specs.declared.refusal.Refusal.{Refusal}
-use Rattle.model.specs.declared.refusal.Refusal.the-variants.{VertexCount, EndCount, BufferLength, EndRange, EqualEnds, MarkRange, SyndromeByte, LossByte, HandedByte, NoCorrection, TorusSide, TextLength, MalformedLine, TextBuffer}
+use Rattle.model.specs.declared.refusal.Refusal.the-variants.{VertexCount, EndCount, BufferLength, EndRange, MarkRange, SyndromeByte, LossByte, HandedByte, NoCorrection, TorusSide, TextLength, MalformedLine, TextBuffer}
 use Rattle.model.specs.declared.answers.Decoded.{Decoded}
 use Rattle.model.specs.declared.answers.Decoded.the-variants as decoded
 use Rattle.model.specs.declared.answers.Verdict.{Verdict}
@@ -80,14 +79,13 @@ firstValue r = r / 2 ^ 8 % 2 ^ 32
 abbrev pub secondValue : ℕ → ℕ
 secondValue r = r / 2 ^ 40
 
--- the refusals at a place, in the order of their numbers, from 1
+-- the refusals at a place, in the order of their numbers
 abbrev pub refusalsAt : ℕ → List Refusal
 refusalsAt at =
     VertexCount
     ∷ EndCount
     ∷ BufferLength
     ∷ EndRange (record { 0 = at })
-    ∷ EqualEnds (record { 0 = at })
     ∷ MarkRange (record { 0 = at })
     ∷ SyndromeByte (record { 0 = at })
     ∷ LossByte (record { 0 = at })
@@ -99,9 +97,14 @@ refusalsAt at =
     ∷ TextBuffer
     ∷ []
 
--- the refusal with a number, 1 to 14, and a place; no call returns a larger number, and one would stand for the last refusal
+-- the first refusal of a list that has the number n; where none has it, number 14
+abbrev pub withNumber : ℕ → List Refusal → Refusal
+withNumber n [] = TextBuffer
+withNumber n (r ∷ rs) = cond (eqb (numberOf r) n) r (withNumber n rs)
+
+-- the refusal with a number and a place; no call returns a number that no refusal has, and one would stand for number 14
 abbrev pub unpackedRefusal : ℕ → ℕ → Refusal
-unpackedRefusal n at = getD (refusalsAt at) (n - 1) TextBuffer
+unpackedRefusal n at = withNumber n (refusalsAt at)
 
 -- the refusal where there is a number, else what the two values stand for
 unfoldable pub unpacked : {A : Type 0} → (Refusal → A) → (ℕ → ℕ → A) → ℕ → A

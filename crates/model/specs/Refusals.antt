@@ -1,4 +1,5 @@
--- Document 01, "Numbers and places": the number and the place of each refusal, and the rules of each call in the order of their tests.
+-- Document 01, "Numbers and places", and document 02, K3: the number and the place of each refusal, and the rules of each call in the order
+-- of their tests. No refusal has number 5, which was that of equal ends.
 -- Assumes nothing.
 use Prim.Native.Nat.{ℕ, _*_, _/_, _%_}
 use mathlib.Core.Bool.{Bool, cond, _&&_, _||_}
@@ -7,7 +8,7 @@ use mathlib.Core.Option.{Option, none, some}
 use lib.ListN.{length, getD}
 use lib.Dec.{eqb, leb, ltb}
 use Rattle.model.specs.declared.refusal.Refusal.{Refusal}
-use Rattle.model.specs.declared.refusal.Refusal.the-variants.{VertexCount, EndCount, BufferLength, EndRange, EqualEnds, MarkRange, SyndromeByte, LossByte, HandedByte, NoCorrection, TorusSide, TextLength, MalformedLine, TextBuffer}
+use Rattle.model.specs.declared.refusal.Refusal.the-variants.{VertexCount, EndCount, BufferLength, EndRange, MarkRange, SyndromeByte, LossByte, HandedByte, NoCorrection, TorusSide, TextLength, MalformedLine, TextBuffer}
 use Rattle.model.specs.Sums.{Set, ones, firstUpTo}
 use Rattle.model.specs.Board.{Board, Sheet, edges, firstEnd, secondEnd, vertexLimit, edgeLimit}
 use Rattle.model.specs.Decoding.{smallestOdd}
@@ -19,7 +20,6 @@ numberOf VertexCount = 1
 numberOf EndCount = 2
 numberOf BufferLength = 3
 numberOf (EndRange e) = 4
-numberOf (EqualEnds e) = 5
 numberOf (MarkRange e) = 6
 numberOf (SyndromeByte v) = 7
 numberOf (LossByte e) = 8
@@ -36,7 +36,6 @@ placeOf VertexCount = 0
 placeOf EndCount = 0
 placeOf BufferLength = 0
 placeOf (EndRange e) = e .0
-placeOf (EqualEnds e) = e .0
 placeOf (MarkRange e) = e .0
 placeOf (SyndromeByte v) = v .0
 placeOf (LossByte e) = e .0
@@ -105,13 +104,6 @@ outside B e = leb (B .vertices) (firstEnd B e) || leb (B .vertices) (secondEnd B
 abbrev pub endRangeRule : Board → Rule
 endRangeRule B = each (edges B) (outside B) (λ e. EndRange (record { 0 = e }))
 
--- Rule 5: the ends of an edge differ.
-abbrev pub endsEqual : Board → Set
-endsEqual B e = eqb (firstEnd B e) (secondEnd B e)
-
-abbrev pub equalEndsRule : Board → Rule
-equalEndsRule B = each (edges B) (endsEqual B) (λ e. EqualEnds (record { 0 = e }))
-
 -- Rule 6: a mark is at most 3. Rules 7, 8 and 9: a byte of the syndrome, of the loss, of the handed-in set is at most 1.
 abbrev pub above : ℕ → List ℕ → Set
 above limit l i = ltb limit (getD l i 0)
@@ -135,7 +127,7 @@ noneAt v = NoCorrection (record { 0 = v })
 abbrev pub oddPartTest : Sheet → Test
 oddPartTest X = refusedAt (smallestOdd (X .board) (ones (X .syndrome))) noneAt
 
--- Rule 11: a torus has side 2 to 32; the place is the side that was asked for.
+-- Rule 11: a torus has side 1 to 32; the place is the side that was asked for.
 abbrev pub sideRule : ℕ → Rule
 sideRule L = whole (leb leastSide L && leb L largestSide) (TorusSide L)
 
@@ -147,9 +139,9 @@ edgesOf ends = length ends / 2
 abbrev pub countRules : ℕ → List ℕ → Bool → List Rule
 countRules vertices ends fit = vertexCountRule vertices ∷ endCountRule ends ∷ lengthRule fit ∷ []
 
--- .. then the edges: 4 to 6
+-- .. then the edges: 4 and 6
 abbrev pub edgeRules : Board → List Rule
-edgeRules B = endRangeRule B ∷ equalEndsRule B ∷ markRule B ∷ []
+edgeRules B = endRangeRule B ∷ markRule B ∷ []
 
 -- a board; `others` says that each buffer lent beside it has its length
 unfoldable pub boardRules : Board → Bool → List Rule

@@ -1,7 +1,7 @@
--- Document 01, "Text": the one text of a sheet, and the reading of a text line by line.
+-- Document 01, "Text", and document 02, K3: the one text of a sheet, and the reading of a text line by line.
 -- A text is a list of bytes. Assumes nothing.
 use Prim.Native.Nat.{ℕ, zero, suc, _+_, _*_, _-_, _/_, _%_}
-use mathlib.Core.Bool.{Bool, true, false, cond, not, _&&_}
+use mathlib.Core.Bool.{Bool, true, false, cond, _&&_}
 use mathlib.Core.List.{List, [], _∷_, _++_, map}
 use mathlib.Core.Option.{Option, none, some}
 use lib.ListN.{set, replicate}
@@ -177,8 +177,8 @@ firstLine (X-line e) = none
 abbrev pub begun : ℕ → Sheet
 begun n = record { board = record { vertices = n; ends = []; marks = [] }; syndrome = replicate n 0; loss = [] }
 
--- `E` lines follow the `V` line or one another, at most 4,096 of them; equal ones are parallel edges. The ends are two different vertices, and
--- the mark is at most 3.
+-- `E` lines follow the `V` line or one another, at most 4,096 of them; equal ones are parallel edges. The ends are two vertices, or one vertex
+-- twice (a loop edge), and the mark is at most 3.
 abbrev pub edgeMayFollow : Line → Bool
 edgeMayFollow (V-line n) = true
 edgeMayFollow (E-line a b m) = true
@@ -187,7 +187,7 @@ edgeMayFollow (X-line e) = false
 
 abbrev pub edgeInRange : Board → ℕ → ℕ → ℕ → Bool
 edgeInRange B a b m =
-    ltb (edges B) edgeLimit && ltb a (B .vertices) && ltb b (B .vertices) && not (eqb a b) && leb m 3
+    ltb (edges B) edgeLimit && ltb a (B .vertices) && ltb b (B .vertices) && leb m 3
 
 abbrev pub withEdge : Sheet → ℕ → ℕ → ℕ → Sheet
 withEdge sheet a b m =

@@ -1,4 +1,5 @@
--- Document 01, "Distance and torus": the torus of side L (source document 000, section 1; numbering of document 01).
+-- Document 01, "Distance and torus", and document 02, K3: the torus of side L (source document 000, section 1; numbering of document 01).
+-- That of side 1 has one vertex and two loop edges there, the first across line A, the second across line B.
 -- Assumes nothing.
 use Prim.Native.Nat.{ℕ, _+_, _*_, _-_, _/_, _%_}
 use mathlib.Core.Bool.{cond}
@@ -9,7 +10,7 @@ use Rattle.model.specs.Board.{Board}
 
 -- the sides of the tori that are built
 abbrev pub leastSide : ℕ
-leastSide = 2
+leastSide = 1
 
 abbrev pub largestSide : ℕ
 largestSide = 32

@@ -13,6 +13,6 @@ pub const ENDS: usize = 2 * EDGES;
 pub const TEXT: usize = 65536;
 
 // The smallest and the largest side of a torus that is built.
-pub const LEAST_SIDE: usize = 2;
+pub const LEAST_SIDE: usize = 1;
 
 pub const LARGEST_SIDE: usize = 32;

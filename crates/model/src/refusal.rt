@@ -3,13 +3,12 @@ use crate::numbers::Vertex;
 ghost use mathlib.Core.Path.{_≡_};
 ghost use Rattle.model.specs.Refusals.{numberOf, placeOf};
 
-// Why a call refuses, with the place at which the rule is broken. The order is that of the numbers, from 1.
+// Why a call refuses, with the place at which the rule is broken. The order is that of the numbers, from 1; no refusal has number 5.
 pub enum Refusal {
     VertexCount,
     EndCount,
     BufferLength,
     EndRange(Edge),
-    EqualEnds(Edge),
     MarkRange(Edge),
     SyndromeByte(Vertex),
     LossByte(Edge),
@@ -30,7 +29,6 @@ pub fn number(refusal: Refusal) -> u8
         Refusal::EndCount => 2,
         Refusal::BufferLength => 3,
         Refusal::EndRange(_) => 4,
-        Refusal::EqualEnds(_) => 5,
         Refusal::MarkRange(_) => 6,
         Refusal::SyndromeByte(_) => 7,
         Refusal::LossByte(_) => 8,
@@ -52,7 +50,6 @@ pub fn place(refusal: Refusal) -> usize
         Refusal::EndCount => 0,
         Refusal::BufferLength => 0,
         Refusal::EndRange(e) => e.0 as usize,
-        Refusal::EqualEnds(e) => e.0 as usize,
         Refusal::MarkRange(e) => e.0 as usize,
         Refusal::SyndromeByte(v) => v.0 as usize,
         Refusal::LossByte(e) => e.0 as usize,

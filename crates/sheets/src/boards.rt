@@ -1,4 +1,4 @@
-// The boards of document 01's marked sheets: two ends for each edge, and a mark.
+// The boards of document 01's marked sheets, and two with loop edges: two ends for each edge, and a mark.
 
 // The ring of four vertices, whose last edge crosses line A.
 pub(crate) const RING: [u16; 8] = [0, 1, 1, 2, 2, 3, 3, 0];
@@ -56,3 +56,13 @@ pub(crate) const TORUS_MARKS: [u8; 18] = [0, 0, 0, 0, 1, 0, 0, 0, 0, 0, 1, 0, 0,
 pub(crate) const TWO: [u16; 4] = [0, 1, 0, 1];
 
 pub(crate) const TWO_MARKS: [u8; 2] = [0, 1];
+
+// An edge between two loop edges, one at each of its ends, which cross line A and line B.
+pub(crate) const LOOPED: [u16; 6] = [0, 0, 0, 1, 1, 1];
+
+pub(crate) const LOOPED_MARKS: [u8; 3] = [1, 0, 2];
+
+// The torus of side 1: two loop edges at its vertex.
+pub(crate) const SIDE_ONE: [u16; 4] = [0, 0, 0, 0];
+
+pub(crate) const SIDE_ONE_MARKS: [u8; 2] = [1, 2];

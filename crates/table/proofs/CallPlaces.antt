@@ -7,11 +7,11 @@ use mathlib.Core.List.{List, [], _∷_}
 use native.Mathlib.Omega.{arith}
 use lib.ListN.{length}
 use lib.Dec.{eqb, leb}
-use Rattle.model.specs.declared.refusal.Refusal.the-variants.{VertexCount, EndCount, BufferLength, EndRange, EqualEnds, MarkRange, SyndromeByte, LossByte, HandedByte, TorusSide, TextLength, TextBuffer}
+use Rattle.model.specs.declared.refusal.Refusal.the-variants.{VertexCount, EndCount, BufferLength, EndRange, MarkRange, SyndromeByte, LossByte, HandedByte, TorusSide, TextLength, TextBuffer}
 use Rattle.model.specs.Sums.{ones}
 use Rattle.model.specs.Board.{Board, Sheet, edges, vertexLimit, edgeLimit}
 use Rattle.model.specs.Decoding.{smallestOdd}
-use Rattle.model.specs.Refusals.{Test, refusalOf, sized, edgesOf, outside, endsEqual, above, countRules, edgeRules, boardRules, byteRules, sheetRules, sideRule, lengthRule, handedRule, decodeRefusal, verdictRefusal, distanceRefusal, torusRefusal, oddPartTest, noneAt}
+use Rattle.model.specs.Refusals.{Test, refusalOf, sized, edgesOf, outside, above, countRules, edgeRules, boardRules, byteRules, sheetRules, sideRule, lengthRule, handedRule, decodeRefusal, verdictRefusal, distanceRefusal, torusRefusal, oddPartTest, noneAt}
 use Rattle.model.specs.Torus.{leastSide, largestSide}
 use Rattle.model.specs.Text.{textOf}
 use Rattle.model.specs.TextOutcomes.{Buffers, textLimit, textRule, readRefusal, writeRefusal}
@@ -47,10 +47,7 @@ edges-small B h =
     let few : edges B ≤ edgeLimit = omega (arith, h .0, h .1) in
     rules-below (edgeRules B) (
       first-below (edges B) (outside B) (λ e. EndRange (record { 0 = e })) (λ e l. omega arith),
-      (
-        first-below (edges B) (endsEqual B) (λ e. EqualEnds (record { 0 = e })) (λ e l. omega arith),
-        (first-below (edges B) (above 3 (B .marks)) (λ e. MarkRange (record { 0 = e })) (λ e l. omega arith), tt),
-      ),
+      (first-below (edges B) (above 3 (B .marks)) (λ e. MarkRange (record { 0 = e })) (λ e l. omega arith), tt),
     )
 
 bytes-small : (syndrome loss : List ℕ) → (length syndrome ≤ vertexLimit) × (length loss ≤ edgeLimit)

@@ -1,14 +1,14 @@
 -- The arrays hold the sheet read so far: at its begin, and after one line more. Assumes nothing.
 use Prim.Native.Nat.{ℕ, _+_, _*_, _≤_, _<_}
 use mathlib.Core.Path.{_≡_, refl, sym, ap, _∙_}
-use mathlib.Core.Bool.{true, not, _&&_, false≢true}
+use mathlib.Core.Bool.{true, _&&_, false≢true}
 use mathlib.Core.List.{List, [], _∷_, _++_, append-assoc}
 use native.Mathlib.Numerals.{add-one}
 use native.Mathlib.Omega.{arith}
 use borrow.Author.Tests.{ltb-true, leb-true}
 use lib.ListN.{length, getD, take, set, replicate, length-append, length-set, length-replicate, getD-replicate}
 use lib.Seq.{ext-getD, getD-take, length-take-le, take-suc-set, take-set-lt}
-use lib.Dec.{eqb, leb, ltb}
+use lib.Dec.{leb, ltb}
 use Rattle.model.proofs.Xor.{and-left, and-right}
 use Rattle.model.specs.Board.{Sheet, edges, vertexLimit, edgeLimit}
 use Rattle.model.specs.Text.{Line, V-line, E-line, S-line, X-line, edgeMayFollow, syndromeMayFollow, lossMayFollow, begun}
@@ -41,12 +41,9 @@ pub storable : (n m : ℕ) (last l : Line) → n ≤ vertexLimit → m ≤ edgeL
 storable n m last (V-line k) hn hm p = absurd (false≢true p)
 storable n m last (E-line a b k) hn hm p =
     let fits = and-right (edgeMayFollow last) (edgeFits n m a b k) p in
-    let ends = and-left (ltb m edgeLimit && ltb a n && ltb b n && not (eqb a b)) (leb k 3) fits in (
-      ltb-true m edgeLimit
-          (and-left (ltb m edgeLimit) (ltb a n)
-          (and-left (ltb m edgeLimit && ltb a n) (ltb b n)
-          (and-left (ltb m edgeLimit && ltb a n && ltb b n) (not (eqb a b)) ends))),
-      leb-true k 3 (and-right (ltb m edgeLimit && ltb a n && ltb b n && not (eqb a b)) (leb k 3) fits),
+    let ends = and-left (ltb m edgeLimit && ltb a n && ltb b n) (leb k 3) fits in (
+      ltb-true m edgeLimit (and-left (ltb m edgeLimit) (ltb a n) (and-left (ltb m edgeLimit && ltb a n) (ltb b n) ends)),
+      leb-true k 3 (and-right (ltb m edgeLimit && ltb a n && ltb b n) (leb k 3) fits),
     )
 storable n m last (S-line v) hn hm p =
     let lv = ltb-true v n (and-right (syndromeMayFollow last v) (ltb v n) p) in

@@ -1,14 +1,14 @@
 -- Reading a text line by line: what the answer about the next line says of all that is left. Assumes nothing.
 use Prim.Native.Nat.{ℕ, suc, _+_, _≤_, _<_}
 use mathlib.Core.Path.{_≡_, refl, sym, ap, _∙_}
-use mathlib.Core.Bool.{Bool, true, false, cond, not, _&&_, false≢true, and-true, and-false}
+use mathlib.Core.Bool.{Bool, true, false, cond, _&&_, false≢true, and-true, and-false}
 use mathlib.Core.List.{List, [], _∷_}
 use mathlib.Core.Option.{Option, none, some}
 use native.Mathlib.Numerals.{add-one}
 use native.Mathlib.Omega.{arith}
 use borrow.Author.Tests.{ltb-true, ltb-false, leb-true, leb-false, le-leb, lt-leb}
 use lib.ListN.{length, drop, drop-of-length-le}
-use lib.Dec.{eqb, leb, ltb}
+use lib.Dec.{leb, ltb}
 use Rattle.model.proofs.Xor.{and-left, and-right}
 use Rattle.model.specs.declared.refusal.Refusal.the-variants.{MalformedLine}
 use Rattle.model.specs.Board.{Sheet, edges, vertexLimit, edgeLimit}
@@ -139,8 +139,8 @@ stands-small n m last (V-line k) hn hm p = absurd (false≢true p)
 stands-small n m last (E-line a b k) hn hm p =
     let fits = and-right (edgeMayFollow last) (edgeFits n m a b k) p in
     let inside = ltb m edgeLimit && ltb a n && ltb b n in
-    let mark = leb-true k 3 (and-right (inside && not (eqb a b)) (leb k 3) fits) in
-    let ab = and-left inside (not (eqb a b)) (and-left (inside && not (eqb a b)) (leb k 3) fits) in
+    let mark = leb-true k 3 (and-right inside (leb k 3) fits) in
+    let ab = and-left inside (leb k 3) fits in
     let la = ltb-true a n (and-right (ltb m edgeLimit) (ltb a n) (and-left (ltb m edgeLimit && ltb a n) (ltb b n) ab)) in
     let lb = ltb-true b n (and-right (ltb m edgeLimit && ltb a n) (ltb b n) ab) in
     rw (le-leb a edgeLimit (omega arith), le-leb b edgeLimit (omega arith), le-leb k edgeLimit (omega arith))

@@ -23,7 +23,7 @@ use Rattle.model.specs.TextOutcomes.{textLimit, textRule, textBufferRule, write
 use Rattle.text.specs.Printing.{Puts, sheetBytes}
 use Rattle.text.proofs.PrintLaws.{text-bytes}
 
--- the tests 1 to 8 of the sheet, then those of the text
+-- the tests of the sheet, then those of the text
 module _ (X : Sheet) (buffer : List ℕ) where
   abbrev pub textRules : List Rule
   textRules = textRule (textOf X) ∷ textBufferRule (textOf X) buffer ∷ []

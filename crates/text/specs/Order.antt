@@ -1,8 +1,8 @@
 -- Which line may stand where, by the counts so far alone. No part of what a reader must believe: inner contracts name it.
 -- Assumes nothing.
 use Prim.Native.Nat.{ℕ}
-use mathlib.Core.Bool.{Bool, false, not, _&&_}
-use lib.Dec.{eqb, leb, ltb}
+use mathlib.Core.Bool.{Bool, false, _&&_}
+use lib.Dec.{leb, ltb}
 use Rattle.model.specs.Board.{edgeLimit}
 use Rattle.model.specs.Text as text
 use Rattle.model.specs.Text.{V-line, E-line, S-line, X-line, edgeMayFollow, syndromeMayFollow, lossMayFollow}
@@ -18,7 +18,7 @@ meant (line.Lost e) = X-line (e .0)
 
 -- an edge's fields on a board of n vertices that has m edges already
 abbrev pub edgeFits : ℕ → ℕ → ℕ → ℕ → ℕ → Bool
-edgeFits n m a b k = ltb m edgeLimit && ltb a n && ltb b n && not (eqb a b) && leb k 3
+edgeFits n m a b k = ltb m edgeLimit && ltb a n && ltb b n && leb k 3
 
 abbrev pub mayStand : ℕ → ℕ → text.Line → text.Line → Bool
 mayStand n m last (V-line k) = false

@@ -54,15 +54,11 @@ fn loss_may_follow(last: Line, edge: Edge) -> bool
     }
 }
 
-// An edge's fields are in range, its ends differ, and it is not one too many.
+// An edge's fields are in range, and it is not one too many. Its ends may be equal.
 fn edge_fits(first: Vertex, second: Vertex, mark: u16, vertices: u16, edges: u16) -> bool
     ensures { λ r. ⌜ r ≡ edgeFits vertices edges (first .0) (second .0) mark ⌝ }
 {
-    ((edges as usize) < EDGES)
-        & (first.0 < vertices)
-        & (second.0 < vertices)
-        & (first.0 != second.0)
-        & (mark <= 3)
+    ((edges as usize) < EDGES) & (first.0 < vertices) & (second.0 < vertices) & (mark <= 3)
 }
 
 // May a line stand after the last one, on a sheet of so many vertices and so far so many edges?

@@ -1,15 +1,14 @@
 -- A board with one edge more: what holds of its edges, and of the new one. Assumes nothing.
 use Prim.Native.Nat.{ℕ, suc, _+_, _*_, _≤_, _<_}
 use mathlib.Core.Path.{_≡_, sym, ap, ap₂, subst, _∙_}
-use mathlib.Core.Logic.{_≢_}
-use mathlib.Core.Bool.{true, not, _&&_}
+use mathlib.Core.Bool.{true, _&&_}
 use mathlib.Core.List.{[], _∷_, _++_}
 use native.Mathlib.Omega.{arith}
 use native.Mathlib.Numerals.{add-one}
-use borrow.Author.Tests.{ltb-true, leb-true, eqb-false, not-true, lt-ltb, le-leb, ne-eqb}
+use borrow.Author.Tests.{ltb-true, leb-true, lt-ltb, le-leb}
 use lib.ListN.{length, length-append, List·getD-append}
 use lib.Seq.{getD-append-add, getD-append-seam}
-use lib.Dec.{eqb, leb, ltb}
+use lib.Dec.{leb, ltb}
 use Rattle.model.specs.Sums.{values}
 use Rattle.model.specs.Board.{Board, Valid, edges, edgeLimit}
 use Rattle.model.specs.Text.{edgeInRange, Line, V-line, E-line, S-line, X-line, edgeLine}
@@ -62,7 +61,7 @@ module _ (B : Board) (two-ends : length (B .ends) ≡ 2 * edges B) (a b m : ℕ)
 -- an edge line in the ranges of a board with n vertices
 abbrev pub FitsLine : ℕ → Line → Type 0
 FitsLine n (V-line k) = ⊥
-FitsLine n (E-line a b m) = (a < n) × (b < n) × (a ≢ b) × (m ≤ 3)
+FitsLine n (E-line a b m) = (a < n) × (b < n) × (m ≤ 3)
 FitsLine n (S-line v) = ⊥
 FitsLine n (X-line e) = ⊥
 
@@ -76,18 +75,15 @@ in-range B a b m p =
     let room = ltb (edges B) edgeLimit in
     let first = ltb a (B .vertices) in
     let second = ltb b (B .vertices) in
-    let differ = not (eqb a b) in
     let small = leb m 3 in
-    let p₃ = and-left (room && first && second && differ) small p in
-    let p₂ = and-left (room && first && second) differ p₃ in
+    let p₂ = and-left (room && first && second) small p in
     let p₁ = and-left (room && first) second p₂ in
     record {
       room = ltb-true _ _ (and-left room first p₁);
       fits = (
         ltb-true _ _ (and-right room first p₁),
         ltb-true _ _ (and-right (room && first) second p₂),
-        eqb-false _ _ (not-true _ (and-right (room && first && second) differ p₃)),
-        leb-true _ _ (and-right (room && first && second && differ) small p),
+        leb-true _ _ (and-right (room && first && second) small p),
       );
     }
 
@@ -98,13 +94,12 @@ range-in B a b m w =
       lt-ltb (edges B) edgeLimit (w .room),
       lt-ltb a (B .vertices) (f .0),
       lt-ltb b (B .vertices) (f .1),
-      ne-eqb a b (f .2),
-      le-leb m 3 (f .3),
+      le-leb m 3 (f .2),
     )
 
 -- the edges of a valid board are in range
 pub fit-lines : (B : Board) → Valid B → (e : ℕ) → e < edges B → FitsLine (B .vertices) (edgeLine B e)
-fit-lines B w e h = (w .inside .first-in-range e h, w .inside .second-in-range e h, w .ends-differ e h, w .mark-in-range e h)
+fit-lines B w e h = (w .inside .first-in-range e h, w .inside .second-in-range e h, w .mark-in-range e h)
 
 -- a valid board stays valid
 pub plus-valid : (B : Board) (a b m : ℕ) → Valid B → Addable B a b m → Valid (plus B a b m)
@@ -122,6 +117,5 @@ plus-valid B a b m w new =
             first-in-range = λ e h. fit e h .0;
             second-in-range = λ e h. fit e h .1;
           };
-      ends-differ = λ e h. fit e h .2;
-      mark-in-range = λ e h. fit e h .3;
+      mark-in-range = λ e h. fit e h .2;
     }

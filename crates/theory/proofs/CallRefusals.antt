@@ -21,6 +21,7 @@ use Rattle.model.specs.declared.answers.Built.the-variants as built
 use Rattle.model.specs.declared.answers.Reading.the-variants as reading
 use Rattle.model.specs.declared.answers.Written.the-variants as written
 use Rattle.model.specs.Board.{Board, Sheet}
+use Rattle.model.specs.Torus.{leastSide, largestSide}
 use Rattle.model.specs.Refusals.{Test, numberOf, noneAt, sized, lengthRule, sideRule, decodeRules, decodeRefusal, verdictRules, verdictRefusal, distanceRules, distanceRefusal, torusRules, torusRefusal}
 use Rattle.model.specs.Outcomes.{answer, keyOrNone, decodeAnswer, judgedOrNone, verdictAnswer, distanceOf, distanceAnswer, torusAnswer}
 use Rattle.model.specs.Distance.{fewest}
@@ -118,24 +119,26 @@ unfolding torusRefusal
 torus-decides L ends marks = decides-exactly (torus-numbers L ends marks)
 
 -- Theorem: number 3 is given only where the side is in range, since number 11 is tested before.
-pub torus-length : (L : ℕ) (ends marks : List ℕ) → torusRefusal L ends marks ≡ some BufferLength → (2 ≤ L) × (L ≤ 32)
+pub torus-length : (L : ℕ) (ends marks : List ℕ) → torusRefusal L ends marks ≡ some BufferLength → (leastSide ≤ L) × (L ≤ largestSide)
 unfolding torusRefusal
 torus-length L ends marks p =
     let fit = sized ends (4 * (L * L)) && sized marks (2 * (L * L)) in
     let kept = earlier-kept (sideRule L ∷ []) (lengthRule fit ∷ []) BufferLength p others in
-    let in-range = not-false-true (leb 2 L && leb L 32) (λ out. kept (TorusSide L) (here (out, refl))) in
-    (leb-true 2 L (and-left (leb 2 L) (leb L 32) in-range), leb-true L 32 (and-right (leb 2 L) (leb L 32) in-range))
+    let in-range = not-false-true (leb leastSide L && leb L largestSide) (λ out. kept (TorusSide L) (here (out, refl))) in (
+      leb-true leastSide L (and-left (leb leastSide L) (leb L largestSide) in-range),
+      leb-true L largestSide (and-right (leb leastSide L) (leb L largestSide) in-range),
+    )
   where
     others : (q : Refusal) → Applies (sideRule L ∷ []) q → numberOf q ≢ numberOf BufferLength
     others q (here b) e = let eleven : numberOf q ≡ 11 = ap numberOf (b .1) in omega arith
     others q (there a) e = empty-applies q a
 
 -- the builder's answer alike
-pub torus-length-answer : (L : ℕ) (ends marks : List ℕ) → torusAnswer L ends marks ≡ built.Refused BufferLength → (2 ≤ L) × (L ≤ 32)
+pub torus-length-answer : (L : ℕ) (ends marks : List ℕ) → torusAnswer L ends marks ≡ built.Refused BufferLength → (leastSide ≤ L) × (L ≤ largestSide)
 unfolding torusAnswer
 torus-length-answer L ends marks p = go (torusRefusal L ends marks) refl p
   where
     go : (t : Test) → torusRefusal L ends marks ≡ t → answer t built.Refused (built.Vertices (L * L)) ≡ built.Refused BufferLength
-        → (2 ≤ L) × (L ≤ 32)
+        → (leastSide ≤ L) × (L ≤ largestSide)
     go none e p = zero-one (cc)
     go (some r) e p = let same : r ≡ BufferLength = cc in torus-length L ends marks (e ∙ ap some same)

@@ -23,6 +23,7 @@ pub mod Supports
 pub mod GrowthBound
 pub mod Decodings
 pub mod Distances
+pub mod LoopEdges
 pub mod VerdictGround
 pub mod NotWinding
 pub mod Demand3

@@ -47,7 +47,6 @@ begun-stage n h l =
                         first-in-range = λ e p. absurd (not-suc-le-zero p);
                         second-in-range = λ e p. absurd (not-suc-le-zero p);
                       };
-                  ends-differ = λ e p. absurd (not-suc-le-zero p);
                   mark-in-range = λ e p. absurd (not-suc-le-zero p);
                 };
             syndrome = clear-valid (length-replicate n 0) (clear-replicate n);

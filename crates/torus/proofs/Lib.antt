@@ -1,4 +1,5 @@
 pub mod Numbering
+pub mod SideRefused
 pub mod Edges
 pub mod Filling
 pub mod Writing

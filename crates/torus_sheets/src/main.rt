@@ -1,4 +1,4 @@
-// Tori as the builder writes them: the sides 2 and 3 edge by edge, 32 by its sums, and every refusal with the buffers it left.
+// Tori as the builder writes them: the sides 1, 2 and 3 edge by edge, 32 by its sums, and every refusal with the buffers it left.
 use libc::STDOUT_FILENO;
 use model::answers::Built;
 use model::refusal::number;
@@ -6,13 +6,19 @@ use model::refusal::place;
 ghost use Prim.Native.Nat.{_≤_};
 
 fn main() {
-    trial(1, 4, 2, false);
+    trial(0, 4, 2, false);
+    trial(0, 0, 0, false);
     trial(33, 4096, 2048, false);
     trial(33, 1, 1, false);
+    trial(1, 3, 2, false);
+    trial(1, 5, 2, false);
+    trial(1, 4, 1, false);
+    trial(1, 4, 3, false);
     trial(2, 15, 8, false);
     trial(2, 17, 8, false);
     trial(2, 16, 7, false);
     trial(2, 16, 9, false);
+    trial(1, 4, 2, true);
     trial(2, 16, 8, true);
     trial(3, 36, 18, true);
     trial(32, 4096, 2048, false);

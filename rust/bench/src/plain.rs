@@ -147,7 +147,7 @@ impl Plain {
     }
 }
 
-/// The tests 1 to 8.
+/// The tests 1 to 4 and 6 to 8.
 fn keeps_the_rules(sheet: &Sheet, support: &[u8], correction: &[u8]) -> bool {
     let Sheet { board, syndrome, loss } = sheet;
     let edges = board.ends.len() / 2;
@@ -157,7 +157,6 @@ fn keeps_the_rules(sheet: &Sheet, support: &[u8], correction: &[u8]) -> bool {
         && [board.marks.len(), loss.len(), support.len(), correction.len()] == [edges; 4]
         && syndrome.len() == board.vertices
         && board.ends.iter().all(|&end| usize::from(end) < board.vertices)
-        && board.ends.chunks_exact(2).all(|ends| ends[0] != ends[1])
         && board.marks.iter().all(|&mark| mark <= 3)
         && syndrome.iter().chain(loss).all(|&byte| byte <= 1)
 }

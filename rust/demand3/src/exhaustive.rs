@@ -20,18 +20,25 @@ pub struct Tally {
     /// Sets with s above 0 on a board where some loop winds and every such loop has more than
     /// t + 2s edges.
     pub covered: usize,
+    /// Of the covered sets, those with a loop edge that is lost: it counts in t.
+    pub covered_lost_loop: usize,
+    /// Of the covered sets, those with a loop edge that is not lost: it counts in s.
+    pub covered_kept_loop: usize,
     /// Sets that wind with the correction though every winding loop has more than t + 2s - 1 edges.
     pub one_short: usize,
     /// Of these, sets on a board that has lost nothing: t is 0.
     pub one_short_unlost: usize,
+    /// Of the sets that are one short, those with a loop edge.
+    pub one_short_loop: usize,
 }
 
 impl Tally {
-    /// Whether each part of the statement had something to say, and its bound was seen to be tight.
+    /// Whether each part of the statement had something to say, of sets with loop edges too, and its
+    /// bound was seen to be tight.
     pub fn has_seen_all(&self) -> bool {
-        [self.unmet, self.growths_reached, self.covered, self.one_short_unlost]
-            .iter()
-            .all(|&count| count > 0)
+        let seen = [self.unmet, self.growths_reached, self.covered, self.one_short_unlost];
+        let loops = [self.covered_lost_loop, self.covered_kept_loop, self.one_short_loop];
+        seen.iter().chain(&loops).all(|&count| count > 0)
     }
 }
 
@@ -90,6 +97,8 @@ pub fn hold(
 struct Sets {
     /// The lost edges.
     lost: u32,
+    /// The loop edges.
+    loops: u32,
     /// The syndrome and the exclusive or of the marks of each set, at the set's bits.
     sets: Vec<(u32, u8)>,
     /// The sets that have each syndrome, at the syndrome's bits.
@@ -119,7 +128,8 @@ impl Sets {
         }
         let winding = by_syndrome[0].iter().filter(|&&set| sets[set as usize].1 != 0);
         let distance = winding.map(|&set| members(set)).min();
-        Sets { lost: bits(loss), sets, by_syndrome, distance }
+        let is_loop: Vec<u8> = (0..board.edges()).map(|edge| board.is_loop(edge).into()).collect();
+        Sets { lost: bits(loss), loops: bits(&is_loop), sets, by_syndrome, distance }
     }
 
     /// 10 exactly when no set has the syndrome; otherwise the rest of the statement.
@@ -169,11 +179,16 @@ impl Sets {
             return Err((Part::Winds, Some(set)));
         }
         let some_loop_winds = self.distance.is_some();
+        let covered = s > 0 && some_loop_winds && loops_above(t + 2 * s);
         let one_short = winds && t + 2 * s > 0 && loops_above(t + 2 * s - 1);
+        let loops = set & self.loops;
         tally.growths_reached += usize::from(s > 0 && key.growths == 2 * s);
-        tally.covered += usize::from(s > 0 && some_loop_winds && loops_above(t + 2 * s));
+        tally.covered += usize::from(covered);
+        tally.covered_lost_loop += usize::from(covered && loops & self.lost != 0);
+        tally.covered_kept_loop += usize::from(covered && loops & !self.lost != 0);
         tally.one_short += usize::from(one_short);
         tally.one_short_unlost += usize::from(one_short && t == 0);
+        tally.one_short_loop += usize::from(one_short && loops != 0);
         Ok(())
     }
 }

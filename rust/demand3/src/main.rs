@@ -49,11 +49,14 @@ fn print(tally: &Tally) {
             tally.covered,
             "with every winding loop above t + 2s edges, s above 0: none winds with the correction",
         ),
+        (tally.covered_lost_loop, "of them with a loop edge in E that is lost"),
+        (tally.covered_kept_loop, "of them with a loop edge in E that is not lost"),
         (
             tally.one_short,
             "wind with the correction where every winding loop is above t + 2s - 1 edges",
         ),
         (tally.one_short_unlost, "of them with nothing lost"),
+        (tally.one_short_loop, "of them with a loop edge in E"),
     ];
     for (count, what) in lines {
         println!("{count:>9} {what}");

@@ -1,4 +1,4 @@
-//! Decoders that document 01 shuts out by demand 3: holding it against each must find a violation.
+//! Decoders that demand 3 shuts out: holding it against each must find a violation.
 
 use reference::board::Sheet;
 use reference::decoding::smallest_odd;
@@ -11,12 +11,13 @@ use crate::Part;
 pub type Decoder = fn(&Sheet) -> Result<Key, Refusal>;
 
 /// Each wrong decoder: what is wrong with it, and the part of the statement that finds it out.
-pub const ALL: [(&str, Decoder, Part); 5] = [
+pub const ALL: [(&str, Decoder, Part); 6] = [
     ("the board's own forest peeled without growth", peels_the_board, Part::Winds),
     ("an empty correction", corrects_nothing, Part::WrongSyndrome),
     ("10 before looking", refuses_at_once, Part::RefusedThoughMet),
     ("never 10", never_refuses, Part::AnsweredThoughUnmet),
     ("one growth more than made", counts_one_more, Part::TooManyGrowths),
+    ("the loop edges in the correction", corrects_loops, Part::Winds),
 ];
 
 fn peels_the_board(sheet: &Sheet) -> Result<Key, Refusal> {
@@ -46,4 +47,12 @@ fn never_refuses(sheet: &Sheet) -> Result<Key, Refusal> {
 fn counts_one_more(sheet: &Sheet) -> Result<Key, Refusal> {
     let key = decode(sheet)?;
     Ok(Key { growths: key.growths + 1, ..key })
+}
+
+fn corrects_loops(sheet: &Sheet) -> Result<Key, Refusal> {
+    let mut key = decode(sheet)?;
+    for edge in (0..sheet.board.edges()).filter(|&edge| sheet.board.is_loop(edge)) {
+        key.correction[edge] = 1;
+    }
+    Ok(key)
 }

@@ -2,7 +2,8 @@
 //!
 //! Such a set joins the syndrome vertices in pairs by shortest walks, so it is found by a perfect
 //! matching of the syndrome vertices with the smallest sum of distances. The matching is exact: it
-//! goes through all sets of syndrome vertices, of which there must be few.
+//! goes through all sets of syndrome vertices, of which there must be few. No shortest walk passes a
+//! loop edge, so the set has none.
 
 pub mod comparison;
 

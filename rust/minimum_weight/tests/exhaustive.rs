@@ -2,7 +2,7 @@
 
 use minimum_weight::{LIT_LIMIT, minimum_weight};
 use reference::Random;
-use reference::board::{Board, size};
+use reference::board::{Board, members, size};
 use reference::generators::{Kind, sheet};
 
 /// The fewest edges of a set with this syndrome, by going through all sets.
@@ -17,6 +17,7 @@ fn fewest(board: &Board, syndrome: &[u8]) -> Option<usize> {
 fn no_set_has_fewer_edges() {
     let mut random = Random::new(11);
     let mut met = [0; 2];
+    let mut with_loops = 0;
     while met.iter().sum::<usize>() < 2000 {
         let board = Kind::ALL[random.below(Kind::ALL.len())].board(&mut random);
         let sheet = sheet(&mut random, board);
@@ -28,7 +29,11 @@ fn no_set_has_fewer_edges() {
         assert_eq!(found.as_deref().map(size), fewest(&sheet.board, &sheet.syndrome), "{sheet:?}");
         if let Some(set) = found {
             assert_eq!(sheet.board.syndrome(&set), sheet.syndrome);
+            let has_loops = (0..sheet.board.edges()).any(|edge| sheet.board.is_loop(edge));
+            with_loops += usize::from(has_loops && size(&set) > 0);
+            assert!(members(&set).all(|edge| !sheet.board.is_loop(edge)), "{sheet:?}");
         }
     }
     assert!(met.iter().all(|&count| count > 100), "{met:?}");
+    assert!(with_loops > 100, "{with_loops}");
 }

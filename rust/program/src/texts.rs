@@ -2,7 +2,8 @@
 
 use reference::board::{Board, Sheet};
 use reference::generators::{
-    Kind, any_syndrome, crowd, late_smallest, path, ring, sheet, sheet_of_bytes, star,
+    Kind, any_syndrome, crowd, crowd_with_loops, late_smallest, path, ring, sheet, sheet_of_bytes,
+    star,
 };
 use reference::torus::torus;
 use reference::{Random, damage, text};
@@ -29,15 +30,16 @@ pub fn all() -> Vec<Texts> {
         Texts { what: "large boards", list: large(&mut random), piece: WHOLE },
         Texts { what: "random boards", list: random_boards(&mut random), piece: WHOLE },
         Texts { what: "odd parts", list: odd_parts(&mut random), piece: WHOLE },
+        Texts { what: "loop edges", list: loop_edges(&mut random), piece: WHOLE },
         Texts { what: "each byte damaged", list: damage::each_byte(&small), piece: WHOLE },
         Texts { what: "each line damaged", list: damage::each_line(&small), piece: WHOLE },
         Texts { what: "damaged anywhere", list: damaged(&mut random), piece: WHOLE },
     ]
 }
 
-/// A small sheet with every kind of line, which has a correction.
+/// A small sheet with every kind of line and a loop edge, which has a correction.
 fn small() -> Sheet {
-    let board = Board::new(11, &[(0, 10, 0), (10, 2, 3), (2, 0, 1), (2, 10, 0)]);
+    let board = Board::new(11, &[(0, 10, 0), (10, 2, 3), (2, 2, 1), (2, 10, 0)]);
     Sheet::new(board, &[0, 10], &[1, 3])
 }
 
@@ -92,6 +94,9 @@ fn by_hand() -> Vec<Vec<u8>> {
         "V\t4\nE\t0\t1\t4\n",
         "V\t4\nE\t0\t4\t0\n",
         "V\t4\nE\t1\t1\t0\n",
+        "V\t4\nE\t4\t4\t0\n",
+        "V\t4\nE\t1\t1\t4\n",
+        "V\t4\nE\t1\t1\n",
         "V\t4\nE\t0\t65536\t0\n",
         "V\t4\nE\t0\t1\t256\n",
         "V\t4\nE\t0\t1\t0\nX\t1\n",
@@ -127,7 +132,8 @@ fn large(random: &mut Random) -> Vec<Vec<u8>> {
         Sheet::new(star(1024), &(0..1024).collect::<Vec<_>>(), &[]),
         Sheet::new(Board::new(1024, &[]), &[1023], &[]),
     ];
-    for board in [torus(2), torus(8), torus(16), torus(32), crowd(random, 1024, 4000)] {
+    let crowds = [crowd(random, 1024, 4000), crowd_with_loops(random, 1024, 4000)];
+    for board in [1, 2, 8, 16, 32].map(torus).into_iter().chain(crowds) {
         let error = random.set(board.edges(), 100);
         let loss = random.set(board.edges(), 10);
         let syndrome = board.syndrome(&error);
@@ -152,6 +158,26 @@ fn odd_parts(random: &mut Random) -> Vec<Vec<u8>> {
         let board = if round % 2 == 0 { late_smallest(random) } else { Kind::Parts.board(random) };
         texts.push(text::write(&any_syndrome(random, board)));
     }
+    texts
+}
+
+/// Loop edges beside others and by themselves, lit vertices and lost edges among them; all are texts.
+fn loop_edges(random: &mut Random) -> Vec<Vec<u8>> {
+    let mut sheets = vec![
+        Sheet::new(torus(1), &[], &[]),
+        Sheet::new(torus(1), &[], &[0, 1]),
+        Sheet::new(torus(1), &[0], &[1]),
+        Sheet::new(Board::new(3, &[(2, 2, 0), (1, 1, 0)]), &[], &[0]),
+        Sheet::new(Board::new(3, &[(2, 2, 0), (1, 1, 3)]), &[1, 2], &[0]),
+        Sheet::new(Board::new(1, &[(0, 0, 0); 4096]), &[], &[4095]),
+        Sheet::new(Board::new(1, &[(0, 0, 2); 4096]), &[0], &[]),
+    ];
+    for _ in 0..600 {
+        let board = Kind::Loops.board(random);
+        sheets.push(sheet(random, board));
+    }
+    let texts: Vec<_> = sheets.iter().map(text::write).collect();
+    assert!(texts.iter().zip(&sheets).all(|(text, sheet)| text::read(text).as_ref() == Ok(sheet)));
     texts
 }
 

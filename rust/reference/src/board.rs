@@ -42,7 +42,14 @@ impl Board {
         [self.ends[2 * edge].into(), self.ends[2 * edge + 1].into()]
     }
 
-    /// The syndrome of an edge set: the vertices touching an odd number of its edges.
+    /// Whether both ends of an edge are one vertex.
+    pub fn is_loop(&self, edge: usize) -> bool {
+        let [a, b] = self.ends_of(edge);
+        a == b
+    }
+
+    /// The syndrome of an edge set: the vertices touching an odd number of its edges. A loop edge
+    /// touches its vertex with both ends, so it adds nothing.
     pub fn syndrome(&self, set: &[u8]) -> Vec<u8> {
         let mut syndrome = vec![0; self.vertices];
         for edge in members(set) {

@@ -32,10 +32,10 @@ pub fn by_search(board: &Board) -> Option<usize> {
 /// The shortest closed walk with a mark that consists of one edge and of two shortest walks to its
 /// ends, over all starts.
 ///
-/// A smallest winding loop is a cycle. Start at one of its vertices: the cycle is the exclusive or,
-/// over its edges, of the walks out to the edge's first end, along it and back, none of which is
-/// longer than the cycle, and one of which has a mark as the cycle has one. What that walk passes
-/// an odd number of times winds, so it isn't shorter either.
+/// A smallest winding loop is a cycle, or a loop edge, which is a cycle of one edge. Start at one of
+/// its vertices: the cycle is the exclusive or, over its edges, of the walks out to the edge's first
+/// end, along it and back, none of which is longer than the cycle, and one of which has a mark as the
+/// cycle has one. What that walk passes an odd number of times winds, so it isn't shorter either.
 pub fn by_trees(board: &Board) -> Option<usize> {
     (0..board.vertices).filter_map(|start| through(board, &shortest_walks(board, start))).min()
 }

@@ -5,7 +5,7 @@ use crate::random::Random;
 use crate::text;
 use crate::torus::torus;
 
-/// A kind of random board.
+/// A kind of random board. Those whose edges are drawn anywhere have some loop edges now and then.
 #[derive(Clone, Copy, Debug, PartialEq, Eq)]
 pub enum Kind {
     /// A few vertices and edges, each edge anywhere.
@@ -16,7 +16,8 @@ pub enum Kind {
     Parallel,
     /// Vertices in groups, with no edge between two groups.
     Parts,
-    /// A cycle with some chords and few marks, so that the distance is large for its size.
+    /// A cycle with some chords or loop edges and few marks, so that the distance is large for its
+    /// size.
     Cycle,
     /// A torus of a small side.
     Torus,
@@ -26,10 +27,12 @@ pub enum Kind {
     Star,
     /// Some dozens of vertices.
     Medium,
+    /// A few vertices, and about as many loop edges as others; often no loop edge has a mark.
+    Loops,
 }
 
 impl Kind {
-    pub const ALL: [Kind; 9] = [
+    pub const ALL: [Kind; 10] = [
         Kind::Small,
         Kind::Dense,
         Kind::Parallel,
@@ -39,6 +42,7 @@ impl Kind {
         Kind::Path,
         Kind::Star,
         Kind::Medium,
+        Kind::Loops,
     ];
 
     /// A random board of this kind.
@@ -53,7 +57,7 @@ impl Kind {
                 let chords = random.from_to(0, 3);
                 cycle(random, vertices, chords)
             }
-            Kind::Torus => torus(random.from_to(2, 6)),
+            Kind::Torus => torus(random.from_to(1, 6)),
             Kind::Path => {
                 let vertices = random.from_to(2, 40);
                 renumbered(random, &path(vertices))
@@ -63,33 +67,61 @@ impl Kind {
                 renumbered(random, &star(vertices))
             }
             Kind::Medium => anywhere(random, (20, 60), (20, 120)),
+            Kind::Loops => loops(random),
         }
     }
 }
 
-/// So many vertices and edges, each within its range, every edge between any two vertices.
+/// So many vertices and edges, each within its range, every edge anywhere.
 fn anywhere(random: &mut Random, vertices: (usize, usize), edges: (usize, usize)) -> Board {
     let vertices = random.from_to(vertices.0, vertices.1);
-    let edges = if vertices == 1 { 0 } else { random.from_to(edges.0, edges.1) };
-    let list: Vec<_> = (0..edges).map(|_| edge(random, 0, vertices)).collect();
+    let edges = random.from_to(edges.0, edges.1);
+    let loops = few_loops(random);
+    joined(random, vertices, edges, loops)
+}
+
+/// The chance of a loop edge, in thousandths, on a board that may have some: on most it has none.
+fn few_loops(random: &mut Random) -> usize {
+    [0, 0, 0, 150][random.below(4)]
+}
+
+/// So many vertices and edges, each edge anywhere, with this chance of a loop edge.
+fn joined(random: &mut Random, vertices: usize, edges: usize, loops: usize) -> Board {
+    let list: Vec<_> = (0..edges).map(|_| edge(random, 0, vertices, loops)).collect();
     Board::new(vertices, &list)
 }
 
-/// An edge between two of `count` vertices from `first`, with any mark.
-fn edge(random: &mut Random, first: usize, count: usize) -> (u16, u16, u8) {
+/// An edge between two of `count` vertices from `first`, with any mark. With so many chances in a
+/// thousand it is a loop edge, and it must be one where there is one vertex.
+fn edge(random: &mut Random, first: usize, count: usize, loops: usize) -> (u16, u16, u8) {
     let a = random.below(count);
-    let b = (a + random.from_to(1, count - 1)) % count;
+    let is_loop = count == 1 || random.chance(loops);
+    let b = if is_loop { a } else { (a + random.from_to(1, count - 1)) % count };
     ((first + a) as u16, (first + b) as u16, random.below(4) as u8)
+}
+
+fn loops(random: &mut Random) -> Board {
+    let (vertices, edges) = (random.from_to(1, 8), random.from_to(1, 14));
+    let mut board = joined(random, vertices, edges, 500);
+    if random.chance(500) {
+        for edge in 0..edges {
+            if board.is_loop(edge) {
+                board.marks[edge] = 0;
+            }
+        }
+    }
+    board
 }
 
 fn parts(random: &mut Random) -> Board {
     let groups = random.from_to(2, 5);
+    let loops = few_loops(random);
     let mut vertices = 0;
     let mut edges = Vec::new();
     for _ in 0..groups {
         let count = random.from_to(1, 6);
-        let inside = if count == 1 { 0 } else { random.from_to(0, 8) };
-        edges.extend((0..inside).map(|_| edge(random, vertices, count)));
+        let inside = if count == 1 && loops == 0 { 0 } else { random.from_to(0, 8) };
+        edges.extend((0..inside).map(|_| edge(random, vertices, count, loops)));
         vertices += count;
     }
     renumbered(random, &Board::new(vertices, &edges))
@@ -117,7 +149,8 @@ pub fn late_smallest(random: &mut Random) -> Board {
     Board::new(vertices, &edges)
 }
 
-/// A cycle through all vertices, one of its edges marked, with further edges that have no mark.
+/// A cycle through all vertices, one of its edges marked, with further edges that have no mark, some
+/// of them loop edges.
 pub fn cycle(random: &mut Random, vertices: usize, chords: usize) -> Board {
     let marked = random.below(vertices);
     let around = |at: usize| {
@@ -126,7 +159,7 @@ pub fn cycle(random: &mut Random, vertices: usize, chords: usize) -> Board {
     };
     let mut edges: Vec<_> = (0..vertices).map(around).collect();
     for _ in 0..chords {
-        let (a, b, _) = edge(random, 0, vertices);
+        let (a, b, _) = edge(random, 0, vertices, 250);
         edges.push((a, b, 0));
     }
     renumbered(random, &Board::new(vertices, &edges))
@@ -149,9 +182,14 @@ pub fn star(vertices: usize) -> Board {
     Board::new(vertices, &edges)
 }
 
-/// So many vertices and edges, every edge between any two vertices: for the limits.
+/// So many vertices and edges, every edge between any two different vertices: for the limits.
 pub fn crowd(random: &mut Random, vertices: usize, edges: usize) -> Board {
-    anywhere(random, (vertices, vertices), (edges, edges))
+    joined(random, vertices, edges, 0)
+}
+
+/// So many vertices and edges, about as many loop edges as others: for the limits.
+pub fn crowd_with_loops(random: &mut Random, vertices: usize, edges: usize) -> Board {
+    joined(random, vertices, edges, 500)
 }
 
 /// A sheet at the limits whose text has so many bytes, some 60,000 to 80,000. Each edge's line has 14

@@ -45,7 +45,7 @@ fn choice(sheet: &Sheet, support: &[u8], cluster: &[usize]) -> Option<usize> {
     (0..vertices).filter(|&name| odd[name]).min_by_key(|&name| (boundary[name], name))
 }
 
-/// The vertices that touch an edge that isn't full.
+/// The vertices that touch an edge that isn't full; a loop edge is touched by its vertex.
 fn exposed(board: &Board, support: &[u8]) -> Vec<bool> {
     let mut exposed = vec![false; board.vertices];
     for edge in (0..board.edges()).filter(|&edge| support[edge] < FULL) {
@@ -56,10 +56,31 @@ fn exposed(board: &Board, support: &[u8]) -> Vec<bool> {
     exposed
 }
 
-/// Step 4: each edge that isn't full gains a half-edge for each end in the cluster, up to 2.
+/// Step 4: each edge that isn't full gains a half-edge for each end in the cluster, up to 2. A loop
+/// edge has both ends there or none, so it gains two at once.
 fn gain(board: &Board, support: &mut [u8], in_cluster: impl Fn(usize) -> bool) {
     for (edge, support) in support.iter_mut().enumerate() {
         let ends = board.ends_of(edge).map(|end| u8::from(in_cluster(end)));
         *support = FULL.min(*support + ends[0] + ends[1]);
+    }
+}
+
+#[cfg(test)]
+mod tests {
+    use super::gain;
+    use crate::board::Board;
+
+    /// No key shows what one growth gave. Where all supports are 0 or 2, as at the start, the cluster
+    /// that grows fuses with nothing, and with a boundary no larger it is chosen once more, which
+    /// makes them 0 or 2 again.
+    #[test]
+    fn half_edges_of_one_growth() {
+        let board = Board::new(3, &[(0, 0, 0), (0, 1, 0), (1, 0, 0), (1, 2, 0), (2, 2, 0)]);
+        let mut support = vec![0; 5];
+        gain(&board, &mut support, |vertex| vertex == 0);
+        assert_eq!(support, [2, 1, 1, 0, 0]);
+        let mut support = vec![0; 5];
+        gain(&board, &mut support, |vertex| vertex < 2);
+        assert_eq!(support, [2, 2, 2, 1, 0]);
     }
 }

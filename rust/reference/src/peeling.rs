@@ -2,7 +2,8 @@
 
 use crate::board::{Board, members};
 
-/// The full edges in rising number, each taken whose ends aren't already joined by taken edges.
+/// The full edges in rising number, each taken whose ends aren't already joined by taken edges. The
+/// ends of a loop edge are one vertex, so it is never taken.
 pub fn forest(board: &Board, full: impl Fn(usize) -> bool) -> Vec<u8> {
     let mut taken = vec![0; board.edges()];
     // Vertices joined by taken edges bear the same name.

@@ -1,4 +1,5 @@
-//! Document 01, "Numbers and places": the tests of each call, in the order of their numbers.
+//! Document 01, "Numbers and places": the tests of each call, in the order of their numbers. By
+//! document 02, K3, equal ends break no rule, so that number 5 never occurs.
 
 use crate::board::{Board, EDGE_LIMIT, Sheet, VERTEX_LIMIT};
 
@@ -46,12 +47,10 @@ fn buffer_lengths(lengths: &[(usize, usize)]) -> Test {
     unless(lengths.iter().all(|(is, must)| is == must), 3, 0)
 }
 
-/// Numbers 4, 5 and 6: the edges.
+/// Numbers 4 and 6: the edges.
 fn edges(board: &Board) -> Test {
-    let ends = |edge| board.ends_of(edge);
     let count = board.edges();
-    first_place(4, count, |edge| ends(edge).iter().any(|&end| end >= board.vertices))?;
-    first_place(5, count, |edge| ends(edge)[0] == ends(edge)[1])?;
+    first_place(4, count, |edge| board.ends_of(edge).iter().any(|&end| end >= board.vertices))?;
     first_place(6, count, |edge| board.marks[edge] > 3)
 }
 
@@ -60,8 +59,8 @@ fn bytes(number: u8, lent: &[u8]) -> Test {
     first_place(number, lent.len(), |place| lent[place] > 1)
 }
 
-/// Numbers 1 to 8 of a call that is lent a sheet and further buffers of so many bytes, which must
-/// have one for each edge.
+/// Numbers 1 to 4 and 6 to 8 of a call that is lent a sheet and further buffers of so many bytes,
+/// which must have one for each edge.
 fn sheet(sheet: &Sheet, further: &[usize]) -> Test {
     let Sheet { board, syndrome, loss } = sheet;
     let count = board.edges();
@@ -96,7 +95,7 @@ pub fn distance(board: &Board, shown: usize) -> Test {
 /// tested only once the side is in range.
 pub fn torus(side: u32, ends: usize, marks: usize) -> Test {
     let side = side as usize;
-    unless((2..=32).contains(&side), 11, side)?;
+    unless((1..=32).contains(&side), 11, side)?;
     buffer_lengths(&[(ends, 4 * side * side), (marks, 2 * side * side)])
 }
 

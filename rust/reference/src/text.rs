@@ -81,7 +81,7 @@ impl Reading {
                 let (a, b) = (number(a, vertices)?, number(b, vertices)?);
                 let mark = number(mark, 4)? as u8;
                 let in_order = self.lit.is_empty() && self.lost.is_empty();
-                let fits = self.edges.len() < EDGE_LIMIT && a != b;
+                let fits = self.edges.len() < EDGE_LIMIT;
                 (in_order && fits).then(|| self.edges.push((a as u16, b as u16, mark)))
             }
             [b"S", vertex] => {

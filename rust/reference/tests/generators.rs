@@ -29,6 +29,37 @@ fn every_kind_keeps_the_rules() {
     }
 }
 
+/// The kind of many loop edges has them in every state; a torus has them where its side is 1, a path
+/// and a star never, and each other kind some.
+#[test]
+fn loop_edges_of_each_kind() {
+    let mut random = Random::new(9);
+    for kind in Kind::ALL {
+        // By mark or none, and by lost or not.
+        let mut seen = [[0; 2]; 2];
+        let (mut loops, mut edges) = (0, 0);
+        for _ in 0..300 {
+            let board = kind.board(&mut random);
+            let sheet = sheet(&mut random, board);
+            let board = &sheet.board;
+            edges += board.edges();
+            for edge in (0..board.edges()).filter(|&edge| board.is_loop(edge)) {
+                seen[usize::from(board.marks[edge] != 0)][usize::from(sheet.loss[edge])] += 1;
+                loops += 1;
+                assert!(kind != Kind::Torus || board.vertices == 1, "{board:?}");
+            }
+        }
+        match kind {
+            Kind::Path | Kind::Star => assert_eq!(loops, 0, "{kind:?}"),
+            Kind::Loops => {
+                assert!(seen.as_flattened().iter().all(|&count| count > 100), "{seen:?}");
+                assert!(3 * loops > edges && 3 * loops < 2 * edges, "{loops} of {edges}");
+            }
+            _ => assert!(0 < loops && 4 * loops < edges, "{kind:?}: {loops} of {edges}"),
+        }
+    }
+}
+
 #[test]
 fn same_seed_same_boards() {
     let boards = |seed| -> Vec<_> {

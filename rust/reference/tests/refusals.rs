@@ -13,7 +13,8 @@ fn refused<T: std::fmt::Debug>(answer: Result<T, Refusal>) -> (u8, u64) {
     (number, place)
 }
 
-/// A sheet that breaks every rule from 4 on, each at its second edge or vertex or later.
+/// A sheet that breaks every rule from 4 on, each at its second edge or vertex or later. Its last two
+/// edges are loop edges, which break none by that.
 fn broken() -> Sheet {
     let board = Board::new(3, &[(0, 1, 0), (0, 3, 4), (2, 2, 4), (3, 3, 0)]);
     Sheet { board, syndrome: vec![0, 2, 2], loss: vec![0, 1, 3, 3] }
@@ -26,16 +27,17 @@ fn smallest_number_then_smallest_place() {
     assert_eq!(refused(decode_into(&sheet, 5, 4)), (3, 0));
     assert_eq!(refused(distance_into(&sheet.board, 4)), (4, 1));
     sheet.board.ends[3] = 2;
+    assert_eq!(refused(decode_into(&sheet, 4, 4)), (4, 3), "a loop edge at no vertex");
     sheet.board.ends[6] = 1;
     sheet.board.ends[7] = 1;
-    assert_eq!(refused(decode_into(&sheet, 4, 4)), (5, 2));
-    sheet.board.ends[5] = 0;
-    sheet.board.ends[7] = 0;
-    assert_eq!(refused(decode_into(&sheet, 4, 4)), (6, 1));
+    assert_eq!(refused(decode_into(&sheet, 4, 4)), (6, 1), "two loop edges");
+    assert_eq!(refused(distance_into(&sheet.board, 4)), (6, 1));
+    sheet.board.marks[1] = 3;
+    assert_eq!(refused(decode_into(&sheet, 4, 4)), (6, 2), "a loop edge with mark 4");
     sheet.board.marks = vec![3; 4];
     assert_eq!(refused(decode_into(&sheet, 4, 4)), (7, 1));
     assert_eq!(refused(verdict(&sheet, &[2; 4])), (7, 1));
-    assert_eq!(distance_into(&sheet.board, 4), Ok(None));
+    assert_eq!(distance_into(&sheet.board, 4), Ok(Some(1)));
     sheet.syndrome = vec![0, 1, 0];
     assert_eq!(refused(verdict(&sheet, &[2; 4])), (8, 2));
     sheet.loss = vec![0; 4];
@@ -65,17 +67,21 @@ fn limits() {
     let parallel = |edges| Sheet::new(Board::new(2, &vec![(0, 1, 0); edges]), &[], &[]);
     assert!(decode_into(&parallel(4096), 4096, 4096).is_ok());
     assert_eq!(refused(decode_into(&parallel(4097), 4097, 4097)), (2, 0));
+    let loops = |edges| Sheet::new(Board::new(1, &vec![(0, 0, 0); edges]), &[], &[]);
+    assert!(decode_into(&loops(4096), 4096, 4096).is_ok());
+    assert_eq!(refused(decode_into(&loops(4097), 4097, 4097)), (2, 0));
     assert_eq!(refused(decode_into(&Sheet::new(path(3), &[], &[]), 2, 1)), (3, 0));
 }
 
 #[test]
 fn torus_sides_and_reader_lengths() {
-    for side in [2, 32] {
+    for side in [1, 2, 32] {
         let edges = 2 * (side * side) as usize;
         assert!(torus_into(side, 2 * edges, edges).is_ok());
         assert_eq!(refused(torus_into(side, 2 * edges, edges + 1)), (3, 0));
+        assert_eq!(refused(torus_into(side, 2 * edges - 1, edges)), (3, 0));
     }
-    for side in [0, 1, 33, u32::MAX] {
+    for side in [0, 33, u32::MAX] {
         assert_eq!(refused(torus_into(side, 0, 0)), (11, side.into()));
     }
     assert_eq!(reader(8192, 4096, 1024, 4096), Ok(()));

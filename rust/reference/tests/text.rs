@@ -31,7 +31,9 @@ fn first_malformed_line() {
         ("V\t4\nV\t4\n", 2),
         ("V\t4\n\n", 2),
         ("V\t4\nE\t0\t4\t0\n", 2),
-        ("V\t4\nE\t0\t0\t0\n", 2),
+        ("V\t4\nE\t4\t4\t0\n", 2),
+        ("V\t4\nE\t0\t0\t4\n", 2),
+        ("V\t4\nE\t0\t0\n", 2),
         ("V\t4\nE\t0\t1\t4\n", 2),
         ("V\t4\nE\t0\t1\n", 2),
         ("V\t4\nE\t0\t1\t0\t0\n", 2),
@@ -54,7 +56,14 @@ fn first_malformed_line() {
 
 #[test]
 fn well_formed() {
-    for text in ["V\t1\n", "V\t1024\n", "V\t2\nE\t0\t1\t3\nE\t0\t1\t3\nS\t0\nS\t1\nX\t0\nX\t1\n"] {
+    let texts = [
+        "V\t1\n",
+        "V\t1024\n",
+        "V\t2\nE\t0\t1\t3\nE\t0\t1\t3\nS\t0\nS\t1\nX\t0\nX\t1\n",
+        "V\t1\nE\t0\t0\t1\nE\t0\t0\t2\n",
+        "V\t4\nE\t3\t3\t0\nE\t1\t0\t3\nE\t3\t3\t0\nS\t3\nX\t0\nX\t2\n",
+    ];
+    for text in texts {
         let sheet = read(text.as_bytes()).expect(text);
         assert_eq!(write(&sheet), text.as_bytes());
         assert_eq!(line_numbers::first_malformed_line(text.as_bytes()), None);
@@ -63,9 +72,11 @@ fn well_formed() {
 
 #[test]
 fn edge_limit() {
-    let lines = |count| "V\t2\n".to_string() + &"E\t0\t1\t0\n".repeat(count);
-    assert!(read(lines(EDGE_LIMIT).as_bytes()).is_ok());
-    assert_eq!(refused(&lines(EDGE_LIMIT + 1)), (13, EDGE_LIMIT as u64 + 2));
+    for line in ["E\t0\t1\t0\n", "E\t1\t1\t0\n"] {
+        let lines = |count| "V\t2\n".to_string() + &line.repeat(count);
+        assert!(read(lines(EDGE_LIMIT).as_bytes()).is_ok());
+        assert_eq!(refused(&lines(EDGE_LIMIT + 1)), (13, EDGE_LIMIT as u64 + 2));
+    }
 }
 
 #[test]

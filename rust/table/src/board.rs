@@ -16,7 +16,8 @@ pub const TEXT: usize = 65_536;
 pub struct Board<'a> {
     /// 1 to [`VERTICES`].
     pub vertices: usize,
-    /// Two for each edge, different and below the vertex count; at most twice [`EDGES`].
+    /// Two for each edge, below the vertex count; at most twice [`EDGES`]. Where both are one vertex
+    /// the edge is a loop edge: it adds nothing to any syndrome, and is closed by itself.
     pub ends: &'a [u16],
     /// One for each edge, 0 to 3: bit 0 says that it crosses line A, bit 1 line B.
     pub marks: &'a [u8],

@@ -8,8 +8,8 @@ use crate::{EDGES, TEXT, VERTICES};
 /// The rule that is broken, with the place where it is broken.
 ///
 /// Of all the rules that a call's buffers break, the one with the smallest number is given, at its
-/// smallest place; the torus builder alone tests 11 before 3. A call that refuses has written
-/// nothing. What is displayed is a sentence with the place.
+/// smallest place; the torus builder alone tests 11 before 3. Number 5 is not in use. A call that
+/// refuses has written nothing. What is displayed is a sentence with the place.
 ///
 /// # Examples
 ///
@@ -19,7 +19,7 @@ use crate::{EDGES, TEXT, VERTICES};
 /// let refusal = torus(33, &mut [], &mut []).unwrap_err();
 /// assert_eq!(refusal, Refusal::TorusSide(33));
 /// assert_eq!((refusal.number(), refusal.place()), (11, 33));
-/// assert_eq!(refusal.to_string(), "side 33 is outside 2 to 32");
+/// assert_eq!(refusal.to_string(), "side 33 is outside 1 to 32");
 /// ```
 #[derive(Clone, Copy, Debug, PartialEq, Eq, Hash)]
 #[must_use]
@@ -33,8 +33,6 @@ pub enum Refusal {
     BufferLength,
     /// Number 4: this edge has an end at or above the vertex count.
     EndRange(usize),
-    /// Number 5: this edge has equal ends.
-    EqualEnds(usize),
     /// Number 6: this edge has a mark above 3.
     MarkRange(usize),
     /// Number 7: this vertex has a syndrome byte above 1.
@@ -65,7 +63,6 @@ impl Refusal {
             Refusal::EndCount => 2,
             Refusal::BufferLength => 3,
             Refusal::EndRange(_) => 4,
-            Refusal::EqualEnds(_) => 5,
             Refusal::MarkRange(_) => 6,
             Refusal::SyndromeByte(_) => 7,
             Refusal::LossByte(_) => 8,
@@ -88,7 +85,6 @@ impl Refusal {
             | Refusal::TextLength
             | Refusal::TextBuffer => 0,
             Refusal::EndRange(place)
-            | Refusal::EqualEnds(place)
             | Refusal::MarkRange(place)
             | Refusal::SyndromeByte(place)
             | Refusal::LossByte(place)
@@ -110,7 +106,6 @@ impl Refusal {
             2 => Refusal::EndCount,
             3 => Refusal::BufferLength,
             4 => Refusal::EndRange(edge?),
-            5 => Refusal::EqualEnds(edge?),
             6 => Refusal::MarkRange(edge?),
             7 => Refusal::SyndromeByte(vertex?),
             8 => Refusal::LossByte(edge?),
@@ -135,7 +130,6 @@ impl fmt::Display for Refusal {
             Refusal::EndRange(edge) => {
                 write!(to, "edge {edge} has an end at or above the vertex count")
             }
-            Refusal::EqualEnds(edge) => write!(to, "edge {edge} has equal ends"),
             Refusal::MarkRange(edge) => write!(to, "edge {edge} has a mark above 3"),
             Refusal::SyndromeByte(vertex) => {
                 write!(to, "vertex {vertex} has a syndrome byte above 1")
@@ -145,7 +139,7 @@ impl fmt::Display for Refusal {
             Refusal::NoCorrection(vertex) => {
                 write!(to, "no correction: vertex {vertex} is the smallest of all odd parts")
             }
-            Refusal::TorusSide(side) => write!(to, "side {side} is outside 2 to 32"),
+            Refusal::TorusSide(side) => write!(to, "side {side} is outside 1 to 32"),
             Refusal::TextLength => write!(to, "the text has more than 65,536 bytes"),
             Refusal::MalformedLine(line) => write!(to, "line {line} is malformed"),
             Refusal::TextBuffer => write!(to, "the buffer is shorter than the text"),
@@ -160,12 +154,11 @@ mod tests {
     use super::Refusal;
 
     /// Each number with its smallest and its largest place.
-    const PLACES: [(u8, u64, u64); 14] = [
+    const PLACES: [(u8, u64, u64); 13] = [
         (1, 0, 0),
         (2, 0, 0),
         (3, 0, 0),
         (4, 0, 4095),
-        (5, 0, 4095),
         (6, 0, 4095),
         (7, 0, 1023),
         (8, 0, 4095),
@@ -194,8 +187,10 @@ mod tests {
 
     #[test]
     fn other_numbers_are_no_refusal() {
-        for number in (15..=u8::MAX).chain([0]) {
-            assert_eq!(Refusal::new(number, 0), None);
+        for number in (15..=u8::MAX).chain([0, 5]) {
+            for place in [0, 1, 4095] {
+                assert_eq!(Refusal::new(number, place), None, "{number}");
+            }
         }
     }
 }

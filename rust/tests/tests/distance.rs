@@ -35,7 +35,7 @@ fn fewest_of_all_sets() {
 
 #[test]
 fn distance_of_a_torus_is_its_side() {
-    for side in 2..=32 {
+    for side in 1..=32 {
         assert_eq!(shown_distance(&torus(side)), Some(side));
     }
 }
@@ -46,7 +46,15 @@ fn large_boards() {
     assert_eq!(shown_distance(&cycle(&mut random, 1024, 0)), Some(1024));
     assert_eq!(shown_distance(&path(1024)), None);
     for (vertices, edges) in [(1024, 4096), (64, 4096), (2, 4096), (1024, 1100)] {
-        let board = crowd(&mut random, vertices, edges);
-        agrees::distance(&board).expect("a board that keeps the rules");
+        let mut board = crowd(&mut random, vertices, edges);
+        let fewest = agrees::distance(&board).expect("a board that keeps the rules");
+        // The last edge made a loop edge: without a mark it is in no smallest loop, with one it is
+        // one by itself.
+        board.ends[2 * edges - 1] = board.ends[2 * edges - 2];
+        board.marks[edges - 1] = 0;
+        let unmarked = agrees::distance(&board).expect("a board that keeps the rules");
+        assert!(fewest > Some(1) && unmarked > Some(1), "{fewest:?}, {unmarked:?}");
+        board.marks[edges - 1] = 2;
+        assert_eq!(agrees::distance(&board), Ok(Some(1)));
     }
 }

@@ -4,7 +4,7 @@ use reference::board::{Board, Sheet};
 use reference::generators::{crowd, path, star};
 use reference::torus::torus;
 use reference::{Key, Random};
-use table::Refusal;
+use table::{Refusal, Verdict};
 use table_tests::agrees;
 
 fn key(board: Board, lit: &[usize], lost: &[usize]) -> Key {
@@ -54,6 +54,63 @@ fn most_edges() {
             agrees::decode(&sheet).expect("the syndrome of a set");
         }
     }
+}
+
+/// All on one vertex. Two are lost, the first and the last, and nothing grows.
+#[test]
+fn most_loop_edges_on_one_vertex() {
+    for mark in 0..4 {
+        let board = Board::new(1, &[(0, 0, mark); 4096]);
+        let fewest = if mark == 0 { None } else { Some(1) };
+        assert_eq!(agrees::distance(&board), Ok(fewest));
+        let key = key(board.clone(), &[], &[0, 4095]);
+        let mut support = vec![0; 4096];
+        (support[0], support[4095]) = (2, 2);
+        assert_eq!(key, Key { growths: 0, support, correction: vec![0; 4096] });
+        let all = agrees::verdict(&Sheet::new(board.clone(), &[], &[]), &[1; 4096]);
+        assert_eq!(all, Ok(Verdict::Same), "an even number of equal marks");
+        let mut handed = vec![1; 4096];
+        handed[4095] = 0;
+        let odd = agrees::verdict(&Sheet::new(board.clone(), &[], &[]), &handed);
+        assert_eq!(odd, Ok(if mark == 0 { Verdict::Same } else { Verdict::Wound(mark) }));
+        let lit = Sheet::new(board, &[0], &[]);
+        assert_eq!(agrees::decode(&lit), Err(Refusal::NoCorrection(0)));
+        assert_eq!(agrees::verdict(&lit, &handed), Err(Refusal::NoCorrection(0)));
+    }
+}
+
+/// Four on each of 1,024 vertices, of which the last edge alone may have a mark.
+#[test]
+fn most_loop_edges_on_all_vertices() {
+    let edges: Vec<_> = (0..4096).map(|edge| (edge % 1024, edge % 1024, 0)).collect();
+    let mut board = Board::new(1024, &edges);
+    assert_eq!(agrees::distance(&board), Ok(None));
+    board.marks[4095] = 3;
+    assert_eq!(agrees::distance(&board), Ok(Some(1)));
+    let lost: Vec<usize> = (0..4096).step_by(7).collect();
+    assert_eq!(key(board.clone(), &[], &lost).growths, 0);
+    for lit in [&[1023][..], &[517, 1023], &[0, 1, 2, 3]] {
+        let refusal = agrees::decode(&Sheet::new(board.clone(), lit, &lost));
+        assert_eq!(refusal, Err(Refusal::NoCorrection(lit[0])));
+    }
+}
+
+/// A path whose two ends are lit, with three loop edges or more at each vertex. {0} grows along it,
+/// and fills all loop edges but those at its other end.
+#[test]
+fn long_path_with_loop_edges() {
+    let mut board = path(1024);
+    for edge in 1023..4096_u16 {
+        board.ends.extend([(edge - 1023) % 1024; 2]);
+        board.marks.push(0);
+    }
+    let key = key(board.clone(), &[0, 1023], &[]);
+    assert_eq!((key.growths, key.edges()), (2 * 1023, 1023));
+    for edge in 0..4096 {
+        let at_the_end = board.ends_of(edge) == [1023, 1023];
+        assert_eq!(key.support[edge], if at_the_end { 0 } else { 2 }, "edge {edge}");
+    }
+    assert_eq!(agrees::distance(&board), Ok(None));
 }
 
 #[test]

@@ -12,13 +12,13 @@ use reference::{Random, damage};
 use table::Refusal;
 use table_tests::agrees;
 
-/// The lines of a text with every kind of line.
+/// The lines of a text with every kind of line, one of them of a loop edge.
 const LINES: [&str; 12] = [
     "V\t12",
     "E\t0\t11\t0",
     "E\t10\t2\t3",
     "E\t2\t10\t3",
-    "E\t7\t9\t1",
+    "E\t7\t7\t1",
     "E\t9\t0\t2",
     "S\t0",
     "S\t7",
@@ -55,7 +55,7 @@ const BREAKS: [(&str, Change); 18] = [
 
 /// Lines that read by themselves: the number of the line that one replaces, and that of the first
 /// malformed line then, which is this one or the next.
-const MISPLACED: [(usize, &str, usize); 33] = [
+const MISPLACED: [(usize, &str, usize); 34] = [
     (1, "E\t0\t1\t0", 1),
     (1, "S\t0", 1),
     (1, "X\t0", 1),
@@ -66,7 +66,8 @@ const MISPLACED: [(usize, &str, usize); 33] = [
     (5, "V\t12", 5),
     (8, "V\t12", 8),
     (12, "V\t12", 12),
-    (4, "E\t2\t2\t3", 4),
+    (4, "E\t12\t12\t3", 4),
+    (4, "E\t2\t2\t4", 4),
     (4, "E\t12\t10\t3", 4),
     (4, "E\t2\t12\t3", 4),
     (4, "E\t2\t10\t4", 4),

@@ -14,3 +14,11 @@ fn fewest_edges_on_small_tori() {
         assert!(side < 4 || seen.larger > 0, "side {side}: {seen:?}");
     }
 }
+
+/// Every set is closed on the torus of side 1, so the correction is empty, and as every set of errors
+/// has a mark, it winds.
+#[test]
+fn torus_of_side_1() {
+    let seen = compare(&mut Random::new(13), 1, 100, library::decode);
+    assert_eq!((seen.larger, seen.within, seen.wound), (0, 0, seen.sheets), "{seen:?}");
+}

@@ -7,13 +7,12 @@ const HEADER: &str = include_str!("../../../include/surface_table.h");
 const RULES: &str = include_str!("../../../docs/RULES.md");
 const SOURCE: &str = include_str!("../../../crates/model/src/refusal.rt");
 
-/// Every refusal, in the order of the numbers, at place 7 where it has a place.
-const REFUSALS: [Refusal; 14] = [
+/// Every refusal, in the order of the numbers, at place 7 where it has a place. None has number 5.
+const REFUSALS: [Refusal; 13] = [
     Refusal::VertexCount,
     Refusal::EndCount,
     Refusal::BufferLength,
     Refusal::EndRange(7),
-    Refusal::EqualEnds(7),
     Refusal::MarkRange(7),
     Refusal::SyndromeByte(7),
     Refusal::LossByte(7),
@@ -64,6 +63,12 @@ fn place_of(refusal: Refusal) -> &'static str {
 }
 
 #[test]
+fn numbers_but_5() {
+    let numbers: Vec<u8> = REFUSALS.iter().map(|refusal| refusal.number()).collect();
+    assert_eq!(numbers, [1, 2, 3, 4, 6, 7, 8, 9, 10, 11, 12, 13, 14]);
+}
+
+#[test]
 fn limits() {
     for (name, limit) in [("VERTICES", VERTICES), ("EDGES", EDGES), ("TEXT", TEXT)] {
         let header = between(&format!("#define SURFACE_{name} "), &[' ']);
@@ -95,6 +100,30 @@ fn numbers_and_sentences_of_the_header() {
     }
     let names = HEADER.lines().filter(|line| line.trim().starts_with("SURFACE_REFUSED_"));
     assert_eq!(names.count(), REFUSALS.len(), "the header has a name that no refusal has");
+    let cases = HEADER.lines().filter(|line| line.trim().starts_with("case "));
+    assert_eq!(cases.count(), 1 + REFUSALS.len(), "the header has a case that no refusal has");
+}
+
+/// Neither the header nor the page of rules gives number 5 a name, a sentence, a row or a test of a
+/// call; both say that it is not in use.
+#[test]
+fn number_5_is_not_in_use() {
+    let (_, listed) = HEADER.split_once("enum surface_refusal_number {").expect("the numbers");
+    let (listed, _) = listed.split_once("};").expect("the end of the numbers");
+    assert!(listed.contains(" = 4,") && !listed.contains(" = 5"), "the header lists 5");
+    assert!(!HEADER.contains("case 5:") && !HEADER.contains("EQUAL_ENDS"), "the header knows 5");
+    assert!(!RULES.lines().any(|line| line.starts_with("| 5 |")), "docs/RULES.md has a row 5");
+    let tests = |call: &str| {
+        let row = RULES.lines().find(|line| line.starts_with(&format!("| {call} |")));
+        row.and_then(|row| row.split('|').nth(4)).expect("the tests of a call")
+    };
+    for call in ["decode", "verdict", "distance", "torus", "read", "write"] {
+        let numbers: Vec<&str> = tests(call).split_whitespace().collect();
+        assert!(numbers.contains(&"3") && !numbers.contains(&"5"), "{call}: {numbers:?}");
+    }
+    for page in [HEADER, RULES] {
+        assert!(page.contains("Number 5 is not in use."));
+    }
 }
 
 #[test]

@@ -6,9 +6,9 @@ use reference::{Random, damage, text};
 use table::Refusal;
 use table_tests::agrees;
 
-/// A small sheet with every kind of line.
+/// A small sheet with every kind of line, one of them of a loop edge.
 fn small() -> Sheet {
-    let board = Board::new(12, &[(0, 11, 0), (10, 2, 3), (2, 10, 3), (7, 9, 1), (9, 0, 2)]);
+    let board = Board::new(12, &[(0, 11, 0), (10, 2, 3), (2, 10, 3), (7, 7, 1), (9, 0, 2)]);
     Sheet::new(board, &[0, 7, 10], &[1, 2, 4])
 }
 
@@ -61,7 +61,9 @@ fn larger_texts_damaged() {
 
 #[test]
 fn edge_count() {
-    let lines = |count| [b"V\t2\n".to_vec(), b"E\t0\t1\t0\n".repeat(count)].concat();
-    assert_eq!(agrees::read(&lines(4096)).map(|sheet| sheet.board.edges()), Ok(4096));
-    assert_eq!(agrees::read(&lines(4097)), Err(Refusal::MalformedLine(4098)));
+    for line in [b"E\t0\t1\t0\n", b"E\t0\t0\t0\n"] {
+        let lines = |count| [b"V\t2\n".to_vec(), line.repeat(count)].concat();
+        assert_eq!(agrees::read(&lines(4096)).map(|sheet| sheet.board.edges()), Ok(4096));
+        assert_eq!(agrees::read(&lines(4097)), Err(Refusal::MalformedLine(4098)));
+    }
 }

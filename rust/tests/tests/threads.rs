@@ -67,7 +67,7 @@ fn all_calls_at_once() {
         scope.spawn(|| {
             for (round, sheet) in sheets.iter().enumerate() {
                 let _ = agrees::verdict(sheet, &sheet.loss);
-                let side = 2 + round as u32 % 31;
+                let side = 1 + round as u32 % 32;
                 let edges = 2 * (side * side) as usize;
                 agrees::torus_with(side, 2 * edges, edges).expect("a side in range");
             }

@@ -52,6 +52,24 @@ fn parallel() {
     small(2, &ends, &marks, &[1, 1], &[1, 1, 1]);
 }
 
+// Loop edges: vertex 0 grows twice, and its own is full after the first time. By themselves they join nothing, so that a lit vertex which
+// no other edge touches is an odd part.
+fn loops() {
+    name(b"loop edges");
+    small(2, &LOOPED, &LOOPED_MARKS, &[1, 1], &[0; 3]);
+    name(b"loop edges, all lost");
+    small(2, &LOOPED, &LOOPED_MARKS, &[1, 1], &[1; 3]);
+    name(b"loop edges, nothing lit");
+    small(2, &LOOPED, &LOOPED_MARKS, &[0, 0], &[0, 1, 0]);
+    let ends = [0, 0, 1, 1];
+    name(b"only loop edges");
+    small(2, &ends, &[3, 0], &[0, 0], &[0, 1]);
+    name(b"only loop edges, lit");
+    small(2, &ends, &[3, 0], &[0, 1], &[0, 1]);
+    name(b"torus of side 1");
+    small(1, &SIDE_ONE, &SIDE_ONE_MARKS, &[0], &[0; 2]);
+}
+
 // The parts {0, 1}, {2, 3, 4} and {5}.
 fn parts() {
     let ends = [0, 1, 4, 3, 3, 2];
@@ -71,5 +89,6 @@ pub(crate) fn all() {
     ties();
     even_clusters();
     parallel();
+    loops();
     parts();
 }

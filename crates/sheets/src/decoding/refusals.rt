@@ -91,7 +91,7 @@ fn lengths() {
     filled(&mut [9; 4], &mut [9; 5]);
 }
 
-// Numbers 4, 5 and 6.
+// Numbers 4 and 6.
 fn edges() {
     name(b"first end 4 of 4 vertices");
     ends(&[0, 1, 1, 2, 4, 3, 3, 0]);
@@ -99,8 +99,6 @@ fn edges() {
     ends(&[0, 1, 1, 2, 2, 4, 3, 0]);
     name(b"an end 65535");
     ends(&[0, 65535, 1, 2, 2, 3, 3, 0]);
-    name(b"equal ends");
-    ends(&[0, 1, 2, 2, 2, 3, 3, 0]);
     name(b"mark 3");
     marks(&[0, 0, 0, 3]);
     name(b"mark 4");
@@ -121,7 +119,7 @@ fn bytes() {
     loss(&[255, 0, 0, 0]);
 }
 
-// Every rule is broken; then the first is kept, then the second, and so on.
+// Every rule is broken; then the first is kept, then the second, and so on. Three of the edges are loop edges, which break none.
 fn order() {
     let odd_ends = [0, 1, 2, 2, 3, 3, 4];
     let ends = [0, 1, 2, 2, 3, 3, 4, 4];
@@ -133,18 +131,16 @@ fn order() {
     small(4, &odd_ends, &marks, &[0, 2, 2], &loss);
     name(b"3 before 4");
     small(4, &ends, &marks, &[0, 2, 2], &loss);
-    name(b"4 before 5");
+    name(b"4 before 6");
     small(4, &ends, &marks, &[0, 2, 2, 0], &loss);
-    name(b"5 before 6");
-    small(5, &ends, &marks, &[0, 2, 2, 0, 0], &loss);
     name(b"6 before 7");
-    small(5, &RING, &marks, &[0, 2, 2, 0, 0], &loss);
+    small(5, &ends, &marks, &[0, 2, 2, 0, 0], &loss);
     name(b"7 before 8");
-    small(5, &RING, &RING_MARKS, &[0, 2, 2, 0, 0], &loss);
+    small(5, &ends, &RING_MARKS, &[0, 2, 2, 0, 0], &loss);
     name(b"8 before 10");
-    small(5, &RING, &RING_MARKS, &[0, 1, 0, 0, 0], &loss);
+    small(5, &ends, &RING_MARKS, &[0, 1, 0, 0, 0], &loss);
     name(b"10");
-    small(5, &RING, &RING_MARKS, &[0, 1, 0, 0, 0], &[0, 1, 1, 0]);
+    small(5, &ends, &RING_MARKS, &[0, 1, 0, 0, 0], &[0, 1, 1, 0]);
 }
 
 pub(crate) fn all() {

@@ -44,7 +44,7 @@ fn vertex_counts() {
     show(1025, &RING, &RING_MARKS, &[0; 1025], &KEPT, &RIGHT);
 }
 
-// Number 2; ends that are all 0 are equal, which is number 5.
+// Number 2; where all ends are 0 every edge is a loop edge, and no set has the syndrome.
 fn end_counts() {
     name(b"7 ends");
     ends(&[0, 1, 1, 2, 2, 3, 3]);
@@ -76,14 +76,12 @@ fn lengths() {
     handed(&[0, 0, 0, 1, 0]);
 }
 
-// Numbers 4, 5 and 6.
+// Numbers 4 and 6.
 fn edges() {
     name(b"first end 4 of 4 vertices");
     ends(&[0, 1, 1, 2, 4, 3, 3, 0]);
     name(b"second end 4 of 4 vertices");
     ends(&[0, 1, 1, 2, 2, 4, 3, 0]);
-    name(b"equal ends");
-    ends(&[0, 1, 2, 2, 2, 3, 3, 0]);
     name(b"mark 3");
     show(4, &RING, &[0, 0, 0, 3], &LIT, &KEPT, &[1, 1, 1, 0]);
     name(b"mark 4");
@@ -102,7 +100,8 @@ fn bytes() {
     handed(&[255, 0, 0, 2]);
 }
 
-// Every rule is broken; then the first is kept, then the second, and so on. No set has the syndrome {1}.
+// Every rule is broken; then the first is kept, then the second, and so on. Three of the edges are loop edges, which break none. No set has
+// the syndrome {1}.
 fn order() {
     let odd_ends = [0, 1, 2, 2, 3, 3, 4];
     let ends = [0, 1, 2, 2, 3, 3, 4, 4];
@@ -118,22 +117,20 @@ fn order() {
     show(4, &odd_ends, &marks, &[0, 2, 2], &loss, &hand);
     name(b"3 before 4");
     show(4, &ends, &marks, &[0, 2, 2], &loss, &hand);
-    name(b"4 before 5");
+    name(b"4 before 6");
     show(4, &ends, &marks, &[0, 2, 2, 0], &loss, &hand);
-    name(b"5 before 6");
-    show(5, &ends, &marks, &two, &loss, &hand);
     name(b"6 before 7");
-    show(5, &RING, &marks, &two, &loss, &hand);
+    show(5, &ends, &marks, &two, &loss, &hand);
     name(b"7 before 8");
-    show(5, &RING, &RING_MARKS, &two, &loss, &hand);
+    show(5, &ends, &RING_MARKS, &two, &loss, &hand);
     name(b"8 before 9");
-    show(5, &RING, &RING_MARKS, &one, &loss, &hand);
+    show(5, &ends, &RING_MARKS, &one, &loss, &hand);
     name(b"9 before 10");
-    show(5, &RING, &RING_MARKS, &one, &lost, &hand);
+    show(5, &ends, &RING_MARKS, &one, &lost, &hand);
     name(b"10 before off");
-    show(5, &RING, &RING_MARKS, &one, &lost, &KEPT);
+    show(5, &ends, &RING_MARKS, &one, &lost, &KEPT);
     name(b"off");
-    show(5, &RING, &RING_MARKS, &[0, 1, 0, 1, 0], &lost, &KEPT);
+    show(5, &ends, &RING_MARKS, &[1, 1, 0, 0, 0], &lost, &KEPT);
 }
 
 pub(crate) fn all() {

@@ -1,26 +1,26 @@
 -- `torus::torus` meets its contract: each refusal by its test, and otherwise what the two loops fill. Assumes nothing.
 use Prim.Native.Nat.{_*_}
-use mathlib.Core.Path.{refl}
+use mathlib.Core.Path.{refl, sym}
 use mathlib.Core.Logic.{⊎-elim}
 use native.Mathlib.Omega.{arith}
 use borrow.Author.Needs.{needs}
-use borrow.Author.Tests.{ltb-true, ltb-false, eqb-true, le-leb, lt-leb, eq-eqb, ne-eqb, not-true, not-false}
+use borrow.Author.Tests.{ltb-true, ltb-false, eqb-true, le-leb, eq-eqb, ne-eqb, not-true, not-false}
 use denote.Ref.{now}
 use lib.ListN.{length}
 use lib.Dec.{eqb}
 use Rattle.model.specs.Refusals.{torusRefusal}
 use Rattle.model.specs.Outcomes.{torusAnswer}
 use Rattle.torus.proofs.Numbering.{square-limit}
+use Rattle.torus.proofs.SideRefused.{side-too-small, side-too-large}
 use Rattle.torus.proofs.torus.Statement.{statement}
 use Rattle.torus.proofs.torus.Tie as tie
 
 returns : tie.Need-returns
-unfolding torusAnswer torusRefusal
 returns c =
     record {
       result =
-          ⊎-elim (λ w. rw (lt-leb _ _ (w .taken)))
-          (λ w. rw (le-leb _ _ (w .0 .left), lt-leb _ _ (ltb-true _ _ (w .1 .taken))))
+          ⊎-elim (λ w. sym (side-too-small _ _ _ (w .taken)))
+          (λ w. sym (side-too-large _ _ _ (w .0 .left) (ltb-true _ _ (w .1 .taken))))
           (c .if1 .came);
       ends-filled = refl;
       marks-filled = refl;

@@ -67,6 +67,8 @@ fn further() -> Vec<String> {
     let hexagon =
         Board::new(6, &[(0, 1, 0), (1, 2, 0), (2, 3, 0), (3, 4, 0), (4, 5, 0), (5, 0, 2)]);
     let parallel = Board::new(2, &[(0, 1, 3), (1, 0, 1), (0, 1, 2)]);
+    let loops = Board::new(2, &[(0, 0, 1), (0, 1, 0), (1, 1, 2)]);
+    let only_loops = Board::new(2, &[(0, 0, 3), (1, 1, 0)]);
     let parts = Board::new(6, &[(0, 1, 0), (4, 3, 0), (3, 2, 0)]);
     vec![
         line("ring, nothing lit", &ring(), &[], &[]),
@@ -80,6 +82,12 @@ fn further() -> Vec<String> {
         line("parallel edges", &parallel, &[0, 1], &[]),
         line("parallel edges, the last lost", &parallel, &[0, 1], &[2]),
         line("parallel edges, all lost", &parallel, &[0, 1], &[0, 1, 2]),
+        line("loop edges", &loops, &[0, 1], &[]),
+        line("loop edges, all lost", &loops, &[0, 1], &[0, 1, 2]),
+        line("loop edges, nothing lit", &loops, &[], &[1]),
+        line("only loop edges", &only_loops, &[], &[1]),
+        line("only loop edges, lit", &only_loops, &[1], &[1]),
+        line("torus of side 1", &torus(1), &[], &[]),
         line("three parts", &parts, &[0, 1, 2, 4], &[]),
         line("three parts, one odd", &parts, &[0, 1, 4], &[]),
         line("three parts, a lone vertex lit", &parts, &[5], &[]),
@@ -143,7 +151,6 @@ fn places() -> Vec<String> {
         ring_with("first end 4 of 4 vertices", |sheet| sheet.board.ends[4] = 4),
         ring_with("second end 4 of 4 vertices", |sheet| sheet.board.ends[5] = 4),
         ring_with("an end 65535", |sheet| sheet.board.ends[1] = 65535),
-        ring_with("equal ends", |sheet| sheet.board.ends[2] = 2),
         ring_with("mark 3", |sheet| sheet.board.marks[3] = 3),
         ring_with("mark 4", |sheet| sheet.board.marks[3] = 4),
         ring_with("mark 255", |sheet| sheet.board.marks[0] = 255),

@@ -99,6 +99,29 @@ fn points() -> Vec<String> {
     [m8, m9, lit].concat()
 }
 
+fn loops() -> Vec<String> {
+    let board = Board::new(2, &[(0, 0, 1), (0, 1, 0), (1, 1, 2)]);
+    let two = hands(
+        &Sheet::new(board, &[0, 1], &[]),
+        &[
+            ("loop edges, right", &[1]),
+            ("loop edges, with a loop", &[0, 1]),
+            ("loop edges, off", &[0, 2]),
+        ],
+    );
+    let side_1 = hands(
+        &Sheet::new(torus(1), &[], &[]),
+        &[
+            ("side 1, empty", &[]),
+            ("side 1, across line A", &[0]),
+            ("side 1, across line B", &[1]),
+            ("side 1, across both", &[0, 1]),
+        ],
+    );
+    let lit = hands(&Sheet::new(torus(1), &[0], &[]), &[("side 1, lit", &[])]);
+    [two, side_1, lit].concat()
+}
+
 /// Ring with {0,3}, changed, and its correction handed in.
 fn ring_with(name: &str, change: impl Fn(&mut Sheet)) -> String {
     judged(name, &changed(change), &[0, 0, 0, 1])
@@ -134,7 +157,6 @@ fn places() -> Vec<String> {
     vec![
         ring_with("first end 4 of 4 vertices", |sheet| sheet.board.ends[4] = 4),
         ring_with("second end 4 of 4 vertices", |sheet| sheet.board.ends[5] = 4),
-        ring_with("equal ends", |sheet| sheet.board.ends[2] = 2),
         judged("mark 3", &marked, &[1, 1, 1, 0]),
         ring_with("mark 4", |sheet| sheet.board.marks[3] = 4),
         ring_with("syndrome byte 2", |sheet| sheet.syndrome[2] = 2),
@@ -151,11 +173,11 @@ fn order() -> Vec<String> {
         names.zip(&sheets).map(|(name, sheet)| judged(name, sheet, &[0, 0, 2, 3])).collect();
     let mut sheet = sheets.pop().expect("the sheet that breaks only 10");
     lines.push(judged("10 before off", &sheet, &[0; 4]));
-    sheet.syndrome = vec![0, 1, 0, 1, 0];
+    sheet.syndrome = vec![1, 1, 0, 0, 0];
     lines.push(judged("off", &sheet, &[0; 4]));
     lines
 }
 
 pub fn lines() -> Vec<String> {
-    [rings(), paths(), tori(), points(), counts(), places(), order()].concat()
+    [rings(), paths(), tori(), points(), loops(), counts(), places(), order()].concat()
 }

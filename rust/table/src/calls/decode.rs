@@ -54,7 +54,7 @@ pub fn decode(sheet: Sheet<'_>, support: &mut [u8], correction: &mut [u8]) -> Re
 
 /// The key of a board with so many edges that a returned number stands for.
 fn unpack_key(returned: u64, all: usize) -> Result<Key, Refusal> {
-    match unpack(returned, &[1, 2, 3, 4, 5, 6, 7, 8, 10])? {
+    match unpack(returned, &[1, 2, 3, 4, 6, 7, 8, 10])? {
         (growths, edges) if growths <= 2 * all && edges <= all => Ok(Key { growths, edges }),
         _ => impossible(returned),
     }
@@ -88,5 +88,11 @@ mod tests {
     #[should_panic(expected = "returned 0x9, which this call never answers")]
     fn number_of_the_verdict() {
         let _ = unpack_key(9, 3);
+    }
+
+    #[test]
+    #[should_panic(expected = "returned 0x5, which this call never answers")]
+    fn number_not_in_use() {
+        let _ = unpack_key(5, 3);
     }
 }

@@ -25,6 +25,17 @@ use crate::{Board, Refusal};
 /// assert_eq!(distance(unmarked, &mut shown), Ok(None));
 /// assert_eq!(shown, [0, 0]);
 /// ```
+///
+/// A loop edge is closed by itself, so with a mark it winds:
+///
+/// ```
+/// use table::{Board, distance};
+///
+/// let mut shown = [9; 3];
+/// let board = Board { vertices: 2, ends: &[0, 1, 1, 1, 0, 1], marks: &[0, 2, 1] };
+/// assert_eq!(distance(board, &mut shown), Ok(Some(1)));
+/// assert_eq!(shown, [0, 1, 0]);
+/// ```
 #[must_use = "a refusal has written nothing"]
 pub fn distance(board: Board<'_>, shown: &mut [u8]) -> Result<Option<usize>, Refusal> {
     let Board { vertices, ends, marks } = board;
@@ -35,7 +46,7 @@ pub fn distance(board: Board<'_>, shown: &mut [u8]) -> Result<Option<usize>, Ref
 /// The distance of a board with so many edges that a returned number stands for. A winding loop has
 /// an edge at least.
 fn unpack_distance(returned: u64, edges: usize) -> Result<Option<usize>, Refusal> {
-    match unpack(returned, &[1, 2, 3, 4, 5, 6])? {
+    match unpack(returned, &[1, 2, 3, 4, 6])? {
         (0, 0) => Ok(None),
         (fewest @ 1.., 1) if fewest <= edges => Ok(Some(fewest)),
         _ => impossible(returned),
@@ -70,5 +81,11 @@ mod tests {
     #[should_panic(expected = "returned 0x10000000500, which this call never answers")]
     fn edge_too_many() {
         let _ = unpack_distance(5 << 8 | 1 << 40, 4);
+    }
+
+    #[test]
+    #[should_panic(expected = "returned 0x5, which this call never answers")]
+    fn number_not_in_use() {
+        let _ = unpack_distance(5, 4);
     }
 }

@@ -47,7 +47,7 @@ pub fn verdict(sheet: Sheet<'_>, handed: &[u8]) -> Result<Verdict, Refusal> {
 
 /// The verdict on a board with so many vertices that a returned number stands for.
 fn unpack_verdict(returned: u64, vertices: usize) -> Result<Verdict, Refusal> {
-    match unpack(returned, &[1, 2, 3, 4, 5, 6, 7, 8, 9, 10])? {
+    match unpack(returned, &[1, 2, 3, 4, 6, 7, 8, 9, 10])? {
         (1, vertex) if vertex < vertices => Ok(Verdict::Off(vertex)),
         (2, 0) => Ok(Verdict::Same),
         (3, marks @ 1..=3) => Ok(Verdict::Wound(marks as u8)),
@@ -84,5 +84,11 @@ mod tests {
     #[should_panic(expected = "returned 0x70000000100, which this call never answers")]
     fn off_outside_the_board() {
         let _ = unpack_verdict(1 << 8 | 7 << 40, 7);
+    }
+
+    #[test]
+    #[should_panic(expected = "returned 0x5, which this call never answers")]
+    fn number_not_in_use() {
+        let _ = unpack_verdict(5, 7);
     }
 }

@@ -35,7 +35,7 @@ pub fn write(sheet: Sheet<'_>, text: &mut [u8]) -> Result<usize, Refusal> {
 
 /// The byte count, within a buffer of this length, that a returned number stands for.
 fn unpack_bytes(returned: u64, length: usize) -> Result<usize, Refusal> {
-    match unpack(returned, &[1, 2, 3, 4, 5, 6, 7, 8, 12, 14])? {
+    match unpack(returned, &[1, 2, 3, 4, 6, 7, 8, 12, 14])? {
         (bytes, 0) if bytes <= length => Ok(bytes),
         _ => impossible(returned),
     }
@@ -62,5 +62,11 @@ mod tests {
     #[should_panic(expected = "returned 0x10000001800, which this call never answers")]
     fn second_value() {
         let _ = unpack_bytes(24 << 8 | 1 << 40, 24);
+    }
+
+    #[test]
+    #[should_panic(expected = "returned 0x5, which this call never answers")]
+    fn number_not_in_use() {
+        let _ = unpack_bytes(5, 24);
     }
 }

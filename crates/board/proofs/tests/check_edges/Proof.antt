@@ -1,4 +1,4 @@
--- `board::tests::check_edges` meets its contract: the tests 4, 5 and 6, one after the other. Assumes nothing.
+-- `board::tests::check_edges` meets its contract: the test 4, then the test 6. Assumes nothing.
 use mathlib.Core.Path.{refl, ap}
 use borrow.Author.Needs.{needs}
 use Rattle.board.specs.Checks.{edgeFound}
@@ -19,8 +19,8 @@ returns c =
 enum-told : tie.Need-enum-told
 enum-told c = search needs
 
-first-equal-requires : tie.Need-first-equal-requires
-first-equal-requires c κs = c .before .before .before .before .before .pre .0
+edge-above-requires : tie.Need-edge-above-requires
+edge-above-requires c κs = search needs
 
 enum-known-e-2 : tie.Need-enum-known-e-2
 enum-known-e-2 c = search needs
@@ -31,41 +31,19 @@ returns-2 c =
     let start = told .before .before .before .before .before in
     rw (
       answered _ _ _ _ _ (start .pre .1) (told .before .before .first-outside .ensures) (ap edgeFound (told .enum-told .given .1)),
-      answered _ _ _ _ _ (start .pre .1) (c .before .before .before .first-equal .ensures) (ap edgeFound (c .before .e2 .given .1)),
+      answered _ _ _ _ _ refl (c .before .before .before .edge-above .ensures) (ap edgeFound (c .before .e2 .given .1)),
     )
 
 enum-told-2 : tie.Need-enum-told-2
 enum-told-2 c = search needs
 
-edge-above-requires : tie.Need-edge-above-requires
-edge-above-requires c κs = search needs
-
-enum-known-e-3 : tie.Need-enum-known-e-3
-enum-known-e-3 c = search needs
-
 returns-3 : tie.Need-returns-3
 returns-3 c =
-    let told2 = c .before .before .before .before in
-    let told = told2 .before .before .before in
+    let told = c .before .before .before in
     let start = told .before .before .before .before .before in
     rw (
       answered _ _ _ _ _ (start .pre .1) (told .before .before .first-outside .ensures) (ap edgeFound (told .enum-told .given .1)),
-      answered _ _ _ _ _ (start .pre .1) (told2 .before .before .first-equal .ensures) (ap edgeFound (told2 .enum-told2 .given .1)),
-      answered _ _ _ _ _ refl (c .before .before .before .edge-above .ensures) (ap edgeFound (c .before .e3 .given .1)),
-    )
-
-enum-told-3 : tie.Need-enum-told-3
-enum-told-3 c = search needs
-
-returns-4 : tie.Need-returns-4
-returns-4 c =
-    let told2 = c .before .before .before in
-    let told = told2 .before .before .before in
-    let start = told .before .before .before .before .before in
-    rw (
-      answered _ _ _ _ _ (start .pre .1) (told .before .before .first-outside .ensures) (ap edgeFound (told .enum-told .given .1)),
-      answered _ _ _ _ _ (start .pre .1) (told2 .before .before .first-equal .ensures) (ap edgeFound (told2 .enum-told2 .given .1)),
-      answered _ _ _ _ _ refl (c .before .before .edge-above .ensures) (ap edgeFound (c .enum-told3 .given .1)),
+      answered _ _ _ _ _ refl (c .before .before .edge-above .ensures) (ap edgeFound (c .enum-told2 .given .1)),
     )
 
 pub check-edges-spec : {M : Type 1} → statement M
@@ -76,12 +54,8 @@ check-edges-spec =
     enum-known-e
     returns
     enum-told
-    first-equal-requires
+    edge-above-requires
     enum-known-e-2
     returns-2
     enum-told-2
-    edge-above-requires
-    enum-known-e-3
-    returns-3
-    enum-told-3
-    returns-4)
+    returns-3)

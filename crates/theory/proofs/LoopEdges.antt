@@ -1,0 +1,177 @@
+-- Document 02, K3: what may be relied on of a loop edge, whose two ends are one vertex. It adds nothing to any syndrome and is closed by
+-- itself, is full or untouched at every step of the growth, and is in no forest and so in no correction; in t and s every edge counts,
+-- loop edges too; and where one is marked, the distance is 1.
+-- Assumes nothing.
+use Prim.Native.Nat.{ℕ, zero, suc, _+_, _*_, _/_, _%_, _≤_, _<_, min}
+use mathlib.Core.Path.{_≡_, refl, sym, ap, ap₂, _∙_}
+use mathlib.Core.Logic.{_≢_, _⊎_, inl, inr}
+use mathlib.Core.Bool.{Bool, true, false, cond, not, _&&_, and-false, and-true, and-comm, false≢true}
+use mathlib.Core.List.{List}
+use mathlib.Core.Option.{some}
+use native.Mathlib.Omega.{arith}
+use borrow.Author.Tests.{eqb-true, eqb-false, eq-eqb, ne-eqb}
+use lib.ListN.{getD}
+use lib.Dec.{eqb}
+use Rattle.model.specs.Sums.{Set, _⊕_, bit}
+use Rattle.model.specs.Board.{Board, Sheet, Valid, LoopEdge, edges, firstEnd, secondEnd, mark}
+use Rattle.model.specs.Syndrome.{meets, syndrome}
+use Rattle.model.specs.Winding.{closed, crossings, winds, together, size}
+use Rattle.model.specs.Components.{label}
+use Rattle.model.specs.Growth.{clusters, grow}
+use Rattle.model.specs.Forest.{takenUpTo, forest}
+use Rattle.model.specs.Correction.{without, correction}
+use Rattle.model.specs.Decoding.{supports, corrected}
+use Rattle.model.specs.Demand3.{lostEdges, keptEdges}
+use Rattle.model.specs.Distance.{fewest}
+use Rattle.model.proofs.Bits.{byte-bit}
+use Rattle.model.proofs.Xor.{xor-self, xor-false, not-true-false}
+use Rattle.model.proofs.SumLaws.{odd-cong, odd-at, odd-none, count-cong}
+use Rattle.model.proofs.CountLaws.{count-before, count-parts}
+use Rattle.theory.proofs.Totals.{count-at}
+use Rattle.theory.proofs.Syndromes.{syndrome-together, syndrome-edge}
+use Rattle.theory.proofs.CrossedLines.{Line, lineA, lineB, crosses, crossesOddly, closed-true, unmarked-unwound}
+use Rattle.theory.proofs.GrowthRun.{OddPart, Reached, reached-holds}
+use Rattle.theory.proofs.Supports.{start-at, grow-at}
+use Rattle.theory.proofs.Decodings.{key-reached}
+use Rattle.theory.proofs.Distances.{least-fewest}
+
+-- edge e and no other
+abbrev pub only : ℕ → Set
+only e i = eqb e i
+
+-- Any edge
+
+module _ (B : Board) (e : ℕ) (h : e < edges B) where
+  -- alone, an edge crosses the lines that its mark names
+  only-crosses : (x : Line) → crossesOddly B x (only e) ≡ crosses B x e
+  unfolding crossesOddly
+  only-crosses x =
+      odd-cong (edges B) (λ i. eqb e i && crosses B x i) (λ i. crosses B x i && eqb e i) (λ i l. and-comm (eqb e i) (crosses B x i))
+      ∙ odd-at (edges B) e (crosses B x) h
+
+  only-crossings : mark B e ≤ 3 → crossings B (only e) ≡ mark B e
+  unfolding crossings crossesOddly
+  only-crossings small =
+      ap₂ (λ a b. bit a + 2 * bit b) (only-crosses lineA) (only-crosses lineB)
+      ∙ omega (arith, byte-bit (mark B e % 2) (omega arith), byte-bit (mark B e / 2 % 2) (omega arith))
+
+  only-size : size B (only e) ≡ 1
+  only-size = omega (arith, count-at (edges B) e, count-before e (edges B) (only e) h (eq-eqb e e refl))
+
+  -- a set that holds it has one edge more than without it
+  pub edge-counts : (D : Set) → D e ≡ true → size B D ≡ suc (size B (without D e))
+  edge-counts D p =
+      count-parts (edges B) D (only e) (without D e) (λ i l. each i (eqb e i) refl) ∙ omega (arith, only-size)
+    where
+      each : (i : ℕ) (t : Bool) → eqb e i ≡ t → bit (D i) ≡ bit (eqb e i) + bit (D i && not (eqb i e))
+      each i true q = let same = eqb-true e i q in rw (q, eq-eqb i e (sym same), sym (ap D same) ∙ p)
+      each i false q = rw (q, ne-eqb i e (λ s. eqb-false e i q (sym s)), and-true (D i)) (omega arith)
+
+  -- So it counts in t where it is lost, and in s where it is in E and not lost, a loop edge like any other.
+  pub lost-counts : (lost : Set) → lost e ≡ true → lostEdges B lost ≡ suc (lostEdges B (without lost e))
+  lost-counts lost p = edge-counts lost p
+
+  pub kept-counts : (lost E : Set) → E e ≡ true → lost e ≡ false → keptEdges B lost E ≡ suc (keptEdges B lost (without E e))
+  kept-counts lost E p q =
+      edge-counts (λ i. E i && not (lost i)) (rw (p, q))
+      ∙ ap suc (count-cong (edges B) (without (λ i. E i && not (lost i)) e) (λ i. without E e i && not (lost i))
+      (λ i l. and-swap (E i) (not (lost i)) (not (eqb i e))))
+    where
+      and-swap : (a b c : Bool) → ((a && b) && c) ≡ ((a && c) && b)
+      and-swap true b c = and-comm b c
+      and-swap false b c = refl
+
+-- a set that winds has some edge
+winding-some : (B : Board) (D : Set) → winds B D ≡ true → 1 ≤ size B D
+unfolding crossesOddly
+winding-some B D w = go (size B D) refl
+  where
+    empty : size B D ≡ 0 → (i : ℕ) → i < edges B → D i ≡ false
+    empty z i h = not-true-false (D i) (λ p. absurd (omega (arith, count-before i (edges B) D h p)))
+
+    even : size B D ≡ 0 → (x : Line) → crossesOddly B x D ≡ false
+    even z x = odd-none (edges B) (λ i. D i && crosses B x i) (λ i h. rw (empty z i h))
+
+    go : (k : ℕ) → size B D ≡ k → 1 ≤ k
+    go zero z = absurd (false≢true (sym (unmarked-unwound B D (even z)) ∙ w))
+    go (suc k) z = omega arith
+
+-- no half-edge, or both
+abbrev pub Whole : ℕ → Type 0
+Whole x = (x ≡ 0) ⊎ (x ≡ 2)
+
+-- A loop edge
+
+module _ (B : Board) (e : ℕ) (h : e < edges B) (same : LoopEdge B e) where
+  loop-meets : (v : ℕ) → meets B e v ≡ false
+  loop-meets v = ap (λ u. eqb u v ⊕ eqb (secondEnd B e) v) same ∙ xor-self (eqb (secondEnd B e) v)
+
+  -- Theorem: it adds nothing to any syndrome.
+  pub loop-unlit : (D : Set) (v : ℕ) → syndrome B (together D (only e)) v ≡ syndrome B D v
+  loop-unlit D v =
+      syndrome-together B D (only e) v
+      ∙ ap (λ t. syndrome B D v ⊕ t) (syndrome-edge B true e h v ∙ loop-meets v)
+      ∙ xor-false (syndrome B D v)
+
+  -- Theorem: it is closed by itself.
+  pub loop-closed : closed B (only e) ≡ true
+  loop-closed = closed-true B (only e) (record { at = λ v l. syndrome-edge B true e h v ∙ loop-meets v })
+
+  -- Theorem: it winds exactly where its mark is not 0.
+  pub loop-winds : Valid B → winds B (only e) ≡ not (eqb (mark B e) 0)
+  unfolding winds
+  loop-winds w = rw (loop-closed, only-crossings B e h (w .mark-in-range e h))
+
+  -- Theorem: one growth of its cluster gives it two half-edges, so that it is full; one of another cluster gives it none.
+  pub loop-gains : (s l : List ℕ) → getD (grow B s l (label l (firstEnd B e))) e 0 ≡ 2
+  loop-gains s l =
+      grow-at B s l (label l (firstEnd B e)) e h
+      ∙ rw (← same, eq-eqb (label l (firstEnd B e)) (label l (firstEnd B e)) refl) (omega arith)
+
+  pub loop-stays : (s l : List ℕ) (a : ℕ) → label l (firstEnd B e) ≢ a → getD (grow B s l a) e 0 ≡ min 2 (getD s e 0)
+  loop-stays s l a out =
+      grow-at B s l a e h ∙ rw (← same, ne-eqb (label l (firstEnd B e)) a out) (omega arith)
+
+  -- Theorem: at every step of the growth it has no half-edge or both; so too in the end.
+  pub loop-whole : (S lost : Set) {s : List ℕ} {g : ℕ} → Reached B S lost s g → Whole (getD s e 0)
+  loop-whole S lost = reached-holds B S lost (λ s g. Whole (getD s e 0)) (rw (start-at B lost e h) (first (lost e))) next
+    where
+      first : (t : Bool) → Whole (cond t 2 0)
+      first true = inr refl
+      first false = inl refl
+
+      next : (s : List ℕ) (g a : ℕ) → OddPart B (clusters B s) S a → Whole (getD s e 0) → Whole (getD (grow B s (clusters B s) a) e 0)
+      next s g a o w = go (eqb (label (clusters B s) (firstEnd B e)) a) refl w
+        where
+          go : (t : Bool) → eqb (label (clusters B s) (firstEnd B e)) a ≡ t → Whole (getD s e 0) → Whole (getD (grow B s (clusters B s) a) e 0)
+          go true q w = inr (ap (λ c. getD (grow B s (clusters B s) c) e 0) (sym (eqb-true _ _ q)) ∙ loop-gains s (clusters B s))
+          go false q (inl z) = inl (omega (arith, loop-stays s (clusters B s) a (eqb-false _ _ q)))
+          go false q (inr z) = inr (omega (arith, loop-stays s (clusters B s) a (eqb-false _ _ q)))
+
+  -- Theorem: it is in no forest, and so in no correction.
+  pub loop-untaken : (F : Set) → forest B F e ≡ false
+  unfolding forest
+  loop-untaken F = rw (same, eq-eqb (label (takenUpTo B F e) (secondEnd B e)) (label (takenUpTo B F e) (secondEnd B e)) refl) (and-false (F e))
+
+  pub loop-uncorrected : (F S : Set) → correction B F S e ≡ false
+  unfolding correction
+  loop-uncorrected F S = rw (loop-untaken F)
+
+  -- Theorem: where it is marked, the distance is 1.
+  pub loop-distance : Valid B → mark B e ≢ 0 → fewest B ≡ some 1
+  loop-distance w marked =
+      least-fewest B 1
+      (record {
+        reached =
+            record { loop = only e; is-winding = loop-winds w ∙ ap not (ne-eqb (mark B e) 0 marked); count = only-size B e h };
+        least = winding-some B;
+      })
+
+-- So it is in a key, whose correction and supports decoding writes.
+module _ (X : Sheet) (e : ℕ) (h : e < edges (X .board)) (same : LoopEdge (X .board) e) where
+  pub key-loop-whole : Whole (getD (supports X) e 0)
+  key-loop-whole = loop-whole (X .board) e h same _ _ (key-reached X)
+
+  pub key-loop-uncorrected : corrected X e ≡ false
+  unfolding corrected
+  key-loop-uncorrected = loop-uncorrected (X .board) e h same _ _
