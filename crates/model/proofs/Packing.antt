@@ -2,6 +2,7 @@
 -- (Returned). Assumes nothing.
 use Prim.Native.Nat.{ℕ, _^_, _≤_, _<_}
 use mathlib.Core.Path.{_≡_, refl}
+use mathlib.Core.Logic.{_≢_}
 use native.Mathlib.Omega.{arith}
 use borrow.Author.Tests.{ne-eqb}
 use Rattle.model.specs.declared.refusal.Refusal.{Refusal}
@@ -20,21 +21,21 @@ unpacked-first first second h = omega arith
 pub unpacked-second : (first second : ℕ) → second < 2 ^ 24 → secondValue (packed first second) ≡ second
 unpacked-second first second h = omega arith
 
--- a refusal's number is 1 to 14
-numbered : (n : Refusal) → (1 ≤ numberOf n) × (numberOf n ≤ 14)
-numbered VertexCount = (omega arith, omega arith)
-numbered EndCount = (omega arith, omega arith)
-numbered BufferLength = (omega arith, omega arith)
-numbered (EndRange e) = (omega arith, omega arith)
-numbered (MarkRange e) = (omega arith, omega arith)
-numbered (SyndromeByte v) = (omega arith, omega arith)
-numbered (LossByte e) = (omega arith, omega arith)
-numbered (HandedByte e) = (omega arith, omega arith)
-numbered (NoCorrection v) = (omega arith, omega arith)
-numbered (TorusSide side) = (omega arith, omega arith)
-numbered TextLength = (omega arith, omega arith)
-numbered (MalformedLine line) = (omega arith, omega arith)
-numbered TextBuffer = (omega arith, omega arith)
+-- a refusal's number is 1 to 14, and never 5
+pub numbered : (n : Refusal) → (1 ≤ numberOf n) × (numberOf n ≤ 14) × (numberOf n ≢ 5)
+numbered VertexCount = (omega arith, omega arith, λ p. omega arith)
+numbered EndCount = (omega arith, omega arith, λ p. omega arith)
+numbered BufferLength = (omega arith, omega arith, λ p. omega arith)
+numbered (EndRange e) = (omega arith, omega arith, λ p. omega arith)
+numbered (MarkRange e) = (omega arith, omega arith, λ p. omega arith)
+numbered (SyndromeByte v) = (omega arith, omega arith, λ p. omega arith)
+numbered (LossByte e) = (omega arith, omega arith, λ p. omega arith)
+numbered (HandedByte e) = (omega arith, omega arith, λ p. omega arith)
+numbered (NoCorrection v) = (omega arith, omega arith, λ p. omega arith)
+numbered (TorusSide side) = (omega arith, omega arith, λ p. omega arith)
+numbered TextLength = (omega arith, omega arith, λ p. omega arith)
+numbered (MalformedLine line) = (omega arith, omega arith, λ p. omega arith)
+numbered TextBuffer = (omega arith, omega arith, λ p. omega arith)
 
 pub unpacked-number : (n : Refusal) → refusalNumber (packedRefusal n) ≡ numberOf n
 unpacked-number n = let small = numbered n .1 in omega arith
