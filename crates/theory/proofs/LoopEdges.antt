@@ -24,9 +24,9 @@ use Rattle.model.specs.Decoding.{supports, corrected}
 use Rattle.model.specs.Demand3.{lostEdges, keptEdges}
 use Rattle.model.specs.Distance.{fewest}
 use Rattle.model.proofs.Bits.{byte-bit}
-use Rattle.model.proofs.Xor.{xor-self, xor-false, not-true-false}
-use Rattle.model.proofs.SumLaws.{odd-cong, odd-at, odd-none, count-cong}
-use Rattle.model.proofs.CountLaws.{count-before, count-parts}
+use Rattle.model.proofs.Xor.{xor-self, xor-false, not-true-false, and-both}
+use Rattle.model.proofs.SumLaws.{odd-cong, odd-at, odd-none}
+use Rattle.model.proofs.CountLaws.{count-before, count-more}
 use Rattle.theory.proofs.Totals.{count-at}
 use Rattle.theory.proofs.Syndromes.{syndrome-together, syndrome-edge}
 use Rattle.theory.proofs.CrossedLines.{Line, lineA, lineB, crosses, crossesOddly, closed-true, unmarked-unwound}
@@ -58,28 +58,22 @@ module _ (B : Board) (e : ℕ) (h : e < edges B) where
   only-size : size B (only e) ≡ 1
   only-size = omega (arith, count-at (edges B) e, count-before e (edges B) (only e) h (eq-eqb e e refl))
 
-  -- a set that holds it has one edge more than without it
-  pub edge-counts : (D : Set) → D e ≡ true → size B D ≡ suc (size B (without D e))
-  edge-counts D p =
-      count-parts (edges B) D (only e) (without D e) (λ i l. each i (eqb e i) refl) ∙ omega (arith, only-size)
-    where
-      each : (i : ℕ) (t : Bool) → eqb e i ≡ t → bit (D i) ≡ bit (eqb e i) + bit (D i && not (eqb i e))
-      each i true q = let same = eqb-true e i q in rw (q, eq-eqb i e (sym same), sym (ap D same) ∙ p)
-      each i false q = rw (q, ne-eqb i e (λ s. eqb-false e i q (sym s)), and-true (D i)) (omega arith)
+  -- e is not in the set without it, every other edge is where it was
+  left-out : (D : Set) → without D e e ≡ false
+  left-out D = rw (eq-eqb e e refl) (and-false (D e))
 
-  -- So it counts in t where it is lost, and in s where it is in E and not lost, a loop edge like any other.
+  kept-in : (D : Set) (i : ℕ) → i ≢ e → D i ≡ without D e i
+  kept-in D i apart = rw (ne-eqb i e apart) (sym (and-true (D i)))
+
+  -- It counts in t where it is lost, and in s where it is in E and not lost, a loop edge like any other.
   pub lost-counts : (lost : Set) → lost e ≡ true → lostEdges B lost ≡ suc (lostEdges B (without lost e))
-  lost-counts lost p = edge-counts lost p
+  lost-counts lost p = count-more (edges B) e (without lost e) lost h (left-out lost) p (kept-in lost)
 
   pub kept-counts : (lost E : Set) → E e ≡ true → lost e ≡ false → keptEdges B lost E ≡ suc (keptEdges B lost (without E e))
   kept-counts lost E p q =
-      edge-counts (λ i. E i && not (lost i)) (rw (p, q))
-      ∙ ap suc (count-cong (edges B) (without (λ i. E i && not (lost i)) e) (λ i. without E e i && not (lost i))
-      (λ i l. and-swap (E i) (not (lost i)) (not (eqb i e))))
-    where
-      and-swap : (a b c : Bool) → ((a && b) && c) ≡ ((a && c) && b)
-      and-swap true b c = and-comm b c
-      and-swap false b c = refl
+      count-more (edges B) e (λ i. without E e i && not (lost i)) (λ i. E i && not (lost i)) h
+      (ap (λ t. t && not (lost e)) (left-out E)) (and-both (E e) (not (lost e)) p (ap not q))
+      (λ i apart. ap (λ t. t && not (lost i)) (kept-in E i apart))
 
 -- a set that winds has some edge
 winding-some : (B : Board) (D : Set) → winds B D ≡ true → 1 ≤ size B D
