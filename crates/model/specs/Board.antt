@@ -7,7 +7,7 @@ use mathlib.Core.List.{List}
 use lib.ListN.{length, getD, replicate}
 
 -- A multigraph on the vertices 0, 1, .., vertices - 1. Edge e joins entries 2e and 2e + 1 of `ends`, and its mark is entry e of `marks`.
--- Parallel edges are allowed, and so are loop edges: both ends of one may be the same vertex.
+-- Parallel edges are allowed, and so are loop edges, whose two ends are one vertex.
 pub record Board : Type 0 where
   pub vertices : ℕ
   pub ends : List ℕ

@@ -1,4 +1,4 @@
-// Sets for sheets with loop edges. A loop edge is closed by itself: with it a set has the same syndrome, and another mark.
+// Sets for sheets with loop edges. A loop edge is closed by itself: with it a set has the same syndrome, and other marks where it has one.
 use crate::boards::*;
 use crate::output::name;
 use crate::verdicts::judged::show;
