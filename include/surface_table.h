@@ -30,7 +30,7 @@ extern "C" {
 
 /* Raised by one whenever a call changes: its parameters, its tests or its answers, or a call more or
  * less. Programs and library must be built from one version; nothing else keeps them together. */
-#define SURFACE_VERSION 2
+#define SURFACE_VERSION 3
 
 /* The largest number of vertices and of edges of a board, and of bytes of a text. */
 #define SURFACE_VERTICES 1024
@@ -66,8 +66,9 @@ enum surface_refusal_number {
     SURFACE_REFUSED_SYNDROME_BYTE = 7,   /* the vertex */
     SURFACE_REFUSED_LOSS_BYTE = 8,       /* the edge */
     SURFACE_REFUSED_HANDED_BYTE = 9,     /* the edge */
-    SURFACE_REFUSED_NO_CORRECTION = 10,  /* the vertex; surface_decode and surface_verdict alone give
-                                            it, where nothing else is refused */
+    SURFACE_REFUSED_NO_CORRECTION = 10,  /* the vertex; surface_decode, surface_decode_rounds and
+                                            surface_verdict alone give it, where nothing else is
+                                            refused */
     SURFACE_REFUSED_TORUS_SIDE = 11,     /* the side */
     SURFACE_REFUSED_TEXT_LENGTH = 12,    /* place 0 */
     SURFACE_REFUSED_MALFORMED_LINE = 13, /* the line, from 1; the first such */
@@ -100,6 +101,7 @@ static inline const char *surface_refusal_text(unsigned number)
  * more for memcpy and memset, all that the library asks of the C library. The calls of one thread don't
  * nest, so the largest of those that it makes is enough. */
 #define SURFACE_STACK_DECODE 45056
+#define SURFACE_STACK_DECODE_ROUNDS 45056
 #define SURFACE_STACK_VERDICT 53248
 #define SURFACE_STACK_DISTANCE 53248
 #define SURFACE_STACK_TORUS 8192
@@ -115,6 +117,22 @@ uint64_t surface_decode(size_t vertices,
                         const uint8_t *loss, size_t loss_count,
                         uint8_t *support, size_t support_count,
                         uint8_t *correction, size_t correction_count);
+
+/* Decodes by growing in rounds: in each all odd clusters grow together, where surface_decode grows
+ * them one at a time. It is lent what surface_decode is, makes the same tests, and fills the same.
+ * First value: the rounds, which are no growths. Second: the number of correction edges.
+ *
+ * The correction has the syndrome and lies inside the edges with support 2. For every set E that has
+ * the syndrome, s of its edges not lost, there are at most 2s rounds. The rule on t + 2s is not
+ * claimed of this call: that E and the correction together do not wind, where every winding loop has
+ * more than t + 2s edges and t edges are lost, may be relied on with surface_decode alone. */
+uint64_t surface_decode_rounds(size_t vertices,
+                               const uint16_t *ends, size_t ends_count,
+                               const uint8_t *marks, size_t marks_count,
+                               const uint8_t *syndrome, size_t syndrome_count,
+                               const uint8_t *loss, size_t loss_count,
+                               uint8_t *support, size_t support_count,
+                               uint8_t *correction, size_t correction_count);
 
 /* What surface_verdict's first value says of the handed-in set. */
 enum surface_verdict_value {

@@ -35,6 +35,12 @@ static void decode(void)
     returned = surface_decode(vertices, ends, 2 * edges, marks, edges, syndrome, vertices, loss, edges, support, edges, correction, edges);
 }
 
+static void decode_rounds(void)
+{
+    returned = surface_decode_rounds(vertices, ends, 2 * edges, marks, edges, syndrome, vertices, loss, edges, support, edges, correction,
+                                     edges);
+}
+
 static void verdict(void)
 {
     returned = surface_verdict(vertices, ends, 2 * edges, marks, edges, syndrome, vertices, loss, edges, handed, edges);
@@ -63,10 +69,11 @@ struct call {
     bool answered, refused;
 };
 
-enum { DECODE, VERDICT, DISTANCE, TORUS, READ, WRITE, CALLS };
+enum { DECODE, DECODE_ROUNDS, VERDICT, DISTANCE, TORUS, READ, WRITE, CALLS };
 
 static struct call calls[CALLS] = {
     {"surface_decode", decode, SURFACE_STACK_DECODE, 0, false, false},
+    {"surface_decode_rounds", decode_rounds, SURFACE_STACK_DECODE_ROUNDS, 0, false, false},
     {"surface_verdict", verdict, SURFACE_STACK_VERDICT, 0, false, false},
     {"surface_distance", distance, SURFACE_STACK_DISTANCE, 0, false, false},
     {"surface_torus", torus, SURFACE_STACK_TORUS, 0, false, false},
@@ -112,6 +119,7 @@ static void measure(int which)
 static void measure_board(void)
 {
     measure(DECODE);
+    measure(DECODE_ROUNDS);
     measure(VERDICT);
     measure(DISTANCE);
     measure(WRITE);
@@ -207,7 +215,7 @@ int main(void)
         struct call call = calls[i];
         bool fits = call.most <= LIMIT && call.said <= LIMIT && call.most + PAGE <= call.said && call.said < call.most + 2 * PAGE;
         bool seen = call.answered && call.refused;
-        printf("%-16s %6zu bytes of stack, the header says %6zu%s%s\n", call.name, call.most, call.said, fits ? "" : ": doesn't fit",
+        printf("%-21s %6zu bytes of stack, the header says %6zu%s%s\n", call.name, call.most, call.said, fits ? "" : ": doesn't fit",
                seen ? "" : ": not seen to answer and to refuse");
         good = good && fits && seen;
     }

@@ -1,135 +1,99 @@
--- Each way out of `decode` meets decoding's outcome, and so demand 3: a refusal writes nothing, and the key of the sheet without its marks
--- is that of the sheet. Assumes nothing.
-use Prim.Native.Nat.{ℕ, _≤_}
-use mathlib.Core.Path.{_≡_, refl, sym, ap, _∙_, subst}
-use mathlib.Core.List.{List, _++_, append-nil}
-use mathlib.Core.Option.{Option, none, some}
-use native.Mathlib.Omega.{arith}
-use lib.ListN.{length, drop, replicate, drop-of-length-le}
-use lib.Seq.{take-at}
+-- What is solved is the outcome of `decode`, and of `decode_rounds`, by renaming the cases of the answer; the promises on which a user may rely
+-- follow from the outcomes.
+-- Assumes nothing.
+use Prim.Native.Nat.{ℕ}
+use mathlib.Core.Path.{_≡_, refl, ap, _∙_, subst}
+use mathlib.Core.List.{List}
+use mathlib.Core.Option.{none, some}
 use Rattle.model.specs.declared.refusal.Refusal.{Refusal}
 use Rattle.model.specs.declared.answers.Decoded.{Decoded}
-use Rattle.model.specs.declared.answers.Decoded.the-variants.{Key, Refused}
-use Rattle.model.specs.Sums.{bit, ones, bytes}
-use Rattle.model.specs.Board.{Board, Sheet, EndsWithin, boardOf, sheetOf, edgeLimit}
-use Rattle.model.specs.Decoding.{supports, corrected}
-use Rattle.model.specs.Refusals.{decodeRefusal}
-use Rattle.model.specs.Outcomes.{answer, keyOrNone, decodeAnswer, Decodes, DecodesSoundly}
-use Rattle.model.proofs.ListLaws.{length-values, filled-long}
-use Rattle.board.proofs.CopyLaws.{copied}
-use Rattle.board.proofs.Calls.{ForDecoding, decode-passes}
-use Rattle.theory.proofs.MarksAside.{unmarked-long, supports-aside, corrected-aside, key-aside}
-use Rattle.theory.proofs.Supports.{reached-supports}
-use Rattle.theory.proofs.Decodings.{passed-answer, key-reached}
+use Rattle.model.specs.declared.answers.Decoded.the-variants as decoded
+use Rattle.model.specs.declared.answers.RoundsDecoded.{RoundsDecoded}
+use Rattle.model.specs.declared.answers.RoundsDecoded.the-variants as inRounds
+use Rattle.model.specs.Board.{Sheet}
+use Rattle.model.specs.Growth.{weighted}
+use Rattle.model.specs.Rounds.{allOdd}
+use Rattle.model.specs.Refusals.{Test, oddPartTest, decodeRefusal}
+use Rattle.model.specs.Outcomes.{answer, keyOr, keyOrNone, decodeAnswer, Decodes, DecodesSoundly}
+use Rattle.model.specs.RoundsOutcomes.{roundsOr, roundsOrNone, roundsAnswer, DecodesInRounds, RoundsSoundly}
+use Rattle.board.proofs.Calls.{decode-passes}
 use Rattle.theory.proofs.Demand3.{decodes-demand3}
-use Rattle.decoder.specs.Keys.{bare, Keyable, Keys, writtenBytes}
+use Rattle.theory.proofs.SoundRounds.{rounds-sound}
+use Rattle.decoder.specs.declared.key.Solved.{Solved}
+use Rattle.decoder.specs.declared.key.Solved.the-variants.{Key, Refused}
+use Rattle.decoder.specs.Keys.{solvedOr, solvedOrNone, Solves}
 
--- An array whose front is as long as a lent buffer, copied over it: all of it, or none of it.
-whole : (l rest old : List ℕ) (m : ℕ) → length l ≡ m → length old ≡ m → copied (l ++ rest) old m ≡ l
-whole l rest old m long same =
-    rw (take-at l rest m long, drop-of-length-le old {i = m} (omega arith)) (append-nil l)
+-- another name for each case of an answer
+abbrev asDecoded : Solved → Decoded
+asDecoded (Key g k) = decoded.Key g k
+asDecoded (Refused n) = decoded.Refused n
 
-module _ (n : ℕ) (ends marks syndrome loss support written : List ℕ) where
-  abbrev board : Board
-  board = boardOf n ends marks
+abbrev asRounds : Solved → RoundsDecoded
+asRounds (Key g k) = inRounds.RoundsKey g k
+asRounds (Refused n) = inRounds.Refused n
 
-  abbrev sheet : Sheet
-  sheet = sheetOf board syndrome loss
+-- a function that keeps refusals goes past the test
+past : {A C : Type 0} (f : A → C) (refused : Refusal → A) (refused′ : Refusal → C) → ((n : Refusal) → f (refused n) ≡ refused′ n) → (t : Test) (a : A)
+    → f (answer t refused a) ≡ answer t refused′ (f a)
+past f refused refused′ keeps none a = refl
+past f refused refused′ keeps (some n) a = keeps n
 
-  abbrev refusal : Option Refusal
-  refusal = decodeRefusal sheet support written
+module _ (X : Sheet) (support correction support′ correction′ : List ℕ) where
+  -- both promises of each call, of which the second follows from the first
+  abbrev DecodePromises : Decoded → Type 0
+  DecodePromises r = Decodes X support correction r support′ correction′ × DecodesSoundly X support correction r correction′
 
-  -- both promises of decoding
-  abbrev pub Promised : Decoded → List ℕ → List ℕ → Type 0
-  Promised r s k = Decodes sheet support written r s k × DecodesSoundly sheet support written r k
+  abbrev RoundsPromises : RoundsDecoded → Type 0
+  RoundsPromises r = DecodesInRounds X support correction r support′ correction′ × RoundsSoundly X support correction r support′ correction′
 
-  -- the second follows from the first
-  promised : {r : Decoded} {s k : List ℕ} → Decodes sheet support written r s k → Promised r s k
-  promised {r} {s} {k} d =
-      (d, record { demand3 = λ p. decodes-demand3 sheet support written r s k (decode-passes sheet support written p .sheet) p d })
+  decode-promises : {r : Decoded} → Decodes X support correction r support′ correction′ → DecodePromises r
+  decode-promises {r} d =
+      (d, record { demand3 = λ p. decodes-demand3 X support correction r support′ correction′ (decode-passes X support correction p .sheet) p d })
 
-  -- a test fails
-  pub refuses : (x : Refusal) → some x ≡ refusal → Promised (Refused x) support written
-  unfolding decodeAnswer
-  refuses x p =
-      promised
+  rounds-promises : {r : RoundsDecoded} → DecodesInRounds X support correction r support′ correction′ → RoundsPromises r
+  rounds-promises {r} d =
+      (d, record { sound = λ p. rounds-sound X support correction r support′ correction′ (decode-passes X support correction p .sheet) p d })
+
+  -- Weighted growth
+
+  decoded-is : asDecoded (answer (decodeRefusal X support correction) Refused (solvedOrNone weighted X)) ≡ decodeAnswer X support correction
+  unfolding solvedOrNone decodeAnswer keyOrNone
+  decoded-is =
+      past asDecoded Refused decoded.Refused (λ n. refl) (decodeRefusal X support correction) (solvedOrNone weighted X)
+      ∙ ap (answer (decodeRefusal X support correction) decoded.Refused) (past asDecoded Refused decoded.Refused (λ n. refl) (oddPartTest X) _)
+
+  pub decodes : {r y : Solved} → r ≡ y → Solves weighted X support correction r support′ correction′ → DecodePromises (asDecoded y)
+  decodes {r} {y} p w =
+      let s = subst (λ z. Solves weighted X support correction z support′ correction′) p w in
+      decode-promises
       (record {
-        result = ap (λ t. answer t Refused (keyOrNone sheet)) p;
-        support-bytes = refl;
-        correction-bytes = refl;
+        result = ap asDecoded (s .result) ∙ decoded-is;
+        support-bytes = s .support-bytes ∙ left y _ _;
+        correction-bytes = s .correction-bytes ∙ left y _ _;
       })
+    where
+      left : (y : Solved) (new old : List ℕ) → solvedOr y new old ≡ keyOr (asDecoded y) new old
+      left (Key g k) new old = refl
+      left (Refused n) new old = refl
 
-  module _ (passed : none ≡ refusal) where
-    valid : ForDecoding sheet support written
-    valid = decode-passes sheet support written (sym passed)
+  -- Rounds
 
-    lost-long : length loss ≡ length marks
-    lost-long = valid .sheet .loss .count
+  rounds-are : asRounds (answer (decodeRefusal X support correction) Refused (solvedOrNone allOdd X)) ≡ roundsAnswer X support correction
+  unfolding solvedOrNone roundsAnswer roundsOrNone
+  rounds-are =
+      past asRounds Refused inRounds.Refused (λ n. refl) (decodeRefusal X support correction) (solvedOrNone allOdd X)
+      ∙ ap (answer (decodeRefusal X support correction) inRounds.Refused) (past asRounds Refused inRounds.Refused (λ n. refl) (oddPartTest X) _)
 
-    pub few : length loss ≤ edgeLimit
-    few = omega (arith, lost-long, valid .sheet .board .inside .edge-limit)
-
-    -- the arrays' fronts take a key
-    pub keyable : (s k : List ℕ) → length s ≡ length loss → length k ≡ length loss → Keyable n ends syndrome loss s k
-    keyable s k long-s long-k =
-        record {
-          lent = subst (λ m. EndsWithin n m ends) (sym lost-long) (valid .sheet .board .inside);
-          lit = valid .sheet .syndrome;
-          support-long = long-s;
-          correction-long = long-k;
-        }
-
-    -- the marks do not matter
-    same : length marks ≡ length {A = ℕ} (replicate (length loss) 0)
-    same = unmarked-long (length loss) marks (sym lost-long)
-
-    result-is : {r : Decoded} → r ≡ keyOrNone (bare n ends syndrome loss) → r ≡ decodeAnswer sheet support written
-    result-is p = p ∙ sym (passed-answer sheet support written (sym passed) ∙ key-aside n ends marks _ same syndrome loss)
-
-    supports-are : supports (bare n ends syndrome loss) ≡ supports sheet
-    supports-are = sym (supports-aside n ends marks _ same syndrome loss)
-
-    correction-is : bytes (length {A = ℕ} (replicate (length loss) 0)) (corrected (bare n ends syndrome loss)) ≡ bytes (length marks) (corrected sheet)
-    correction-is = rw (same, corrected-aside n ends marks _ same syndrome loss)
-
-    -- whatever is answered, the fronts keep their lengths
-    fronts-long : (r : Decoded) (s k s′ k′ : List ℕ) → length s ≡ length loss → length k ≡ length loss → Keys (bare n ends syndrome loss) s k r s′ k′
-        → (length s′ ≡ length loss) × (length k′ ≡ length loss)
-    fronts-long (Key g e) s k s′ k′ long-s long-k w = (
-      ap length (w .support-bytes ∙ supports-are)
-          ∙ reached-supports board (ones syndrome) (ones loss) (key-reached sheet) .long ∙ sym lost-long,
-      ap length (w .correction-bytes ∙ correction-is)
-          ∙ length-values (length marks) (λ i. bit (corrected sheet i)) ∙ sym lost-long,
-    )
-    fronts-long (Refused x) s k s′ k′ long-s long-k w = (ap length (w .support-bytes) ∙ long-s, ap length (w .correction-bytes) ∙ long-k)
-
-    -- so the arrays are whole
-    pub arrays-long : (r : Decoded) (s k s′ k′ : List ℕ) → length s ≡ length loss → length k ≡ length loss → Keys (bare n ends syndrome loss) s k r s′ k′
-        → (length (s′ ++ drop (length loss) (replicate edgeLimit 0)) ≡ edgeLimit) × (length (k′ ++ drop (length loss) (replicate edgeLimit 0)) ≡ edgeLimit)
-    arrays-long r s k s′ k′ long-s long-k w =
-        let long = fronts-long r s k s′ k′ long-s long-k w in
-        (filled-long (length loss) edgeLimit s′ (long .0) few, filled-long (length loss) edgeLimit k′ (long .1) few)
-
-    -- what is copied has room: an answer writes no more than a byte for each edge
-    pub fewer : (r : Decoded) (count : ℕ) → count ≡ writtenBytes r (length loss) → count ≤ length loss
-    fewer (Key g e) count p = omega arith
-    fewer (Refused x) count p = omega arith
-
-    pub room : (length support ≡ length loss) × (length written ≡ length loss)
-    room = (valid .support-long ∙ sym lost-long, valid .correction-long ∙ sym lost-long)
-
-    -- a key is copied whole, and of number 10 nothing
-    pub decodes : (r : Decoded) (s k s′ k′ rest rest′ : List ℕ) (count : ℕ) → length s ≡ length loss → length k ≡ length loss
-        → Keys (bare n ends syndrome loss) s k r s′ k′ → count ≡ writtenBytes r (length loss) → Promised r (copied (s′ ++ rest) support count) (copied (k′ ++ rest′) written count)
-    decodes (Key g e) s k s′ k′ rest rest′ count long-s long-k w p =
-        let grown = w .support-bytes ∙ supports-are in
-        let peeled = w .correction-bytes ∙ correction-is in
-        let long = fronts-long (Key g e) s k s′ k′ long-s long-k w in
-        promised
-        (record {
-          result = result-is (w .result);
-          support-bytes = rw p (whole s′ rest support (length loss) (long .0) (room .0) ∙ grown);
-          correction-bytes = rw p (whole k′ rest′ written (length loss) (long .1) (room .1) ∙ peeled);
-        })
-    decodes (Refused x) s k s′ k′ rest rest′ count long-s long-k w p =
-        rw p (promised (record { result = result-is (w .result); support-bytes = refl; correction-bytes = refl }))
+  pub decodes-in-rounds : {r y : Solved} → r ≡ y → Solves allOdd X support correction r support′ correction′ → RoundsPromises (asRounds y)
+  decodes-in-rounds {r} {y} p w =
+      let s = subst (λ z. Solves allOdd X support correction z support′ correction′) p w in
+      rounds-promises
+      (record {
+        result = ap asRounds (s .result) ∙ rounds-are;
+        support-bytes = s .support-bytes ∙ left y _ _;
+        correction-bytes = s .correction-bytes ∙ left y _ _;
+      })
+    where
+      left : (y : Solved) (new old : List ℕ) → solvedOr y new old ≡ roundsOr (asRounds y) new old
+      left (Key g k) new old = refl
+      left (Refused n) new old = refl

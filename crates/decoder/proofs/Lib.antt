@@ -5,10 +5,16 @@ pub mod Raising
 pub mod BookLaws
 pub mod Gathering
 pub mod TreeNames
+pub mod Marking
 pub mod TreeLabelLaws
 pub mod ChoiceLaws
+pub mod OddMarking
 pub mod Fusing
 pub mod GrowthStep
+pub mod Following
+pub mod Policies
+pub mod StepLaws
 pub mod RunLaws
 pub mod Keying
+pub mod SolveLaws
 pub mod DecodeLaws

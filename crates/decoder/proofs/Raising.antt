@@ -9,12 +9,12 @@ use lib.ListN.{length, getD, set, length-set}
 use lib.Seq.{getD-set-same, getD-set-other, set-getD}
 use lib.Dec.{eqb}
 use borrow.Author.Tests.{eqb-true, eq-eqb, ne-eqb}
-use Rattle.model.specs.Sums.{someUpTo, values}
+use Rattle.model.specs.Sums.{bit, countUpTo, someUpTo, values}
 use Rattle.model.specs.Board.{edgeLimit}
 use Rattle.model.specs.Growth.{full}
 use Rattle.model.proofs.SumLaws.{below-suc, some-cong, none-some}
 use Rattle.model.proofs.ListLaws.{values-are}
-use Rattle.decoder.specs.Gains.{Gainable, gains, lifted, Liftable, Lifts, Raisable, listed, Raises}
+use Rattle.decoder.specs.Gains.{Gainable, gains, lifted, Liftable, Lifts, Raisable, listed, fills, Raises}
 
 -- the first k entries are f's, the others are still those of s₀
 pub record Filled (f : ℕ → ℕ) (s₀ : List ℕ) (k : ℕ) (s : List ℕ) : Type 0 where
@@ -43,6 +43,7 @@ pub record Raising (ends inside s₀ : List ℕ) (k : ℕ) (s filled : List ℕ)
   pub few : count ≤ k
   pub edges : (i : ℕ) → i < count → getD filled i 0 < k
   pub becomes-full : (e : ℕ) → e < k → full s e ≡ (full s₀ e || listed count filled e)
+  pub count-is : count ≡ countUpTo k (fills ends inside s₀)
 
 pub liftable : {ends inside s₀ s filled₀ filled : List ℕ} {k count : ℕ} → Raisable ends inside s₀ filled₀ → Raising ends inside s₀ k s filled count → k < length s₀ → Liftable ends inside s k
 liftable {s₀ = s₀} {k = k} r w h =
@@ -53,6 +54,7 @@ liftable {s₀ = s₀} {k = k} r w h =
     }
 
 pub raise-none : (ends inside s filled : List ℕ) → length filled ≡ edgeLimit → Raising ends inside s 0 s filled 0
+unfolding countUpTo
 raise-none ends inside s filled p =
     record {
       supports = fill-none (lifted ends inside s) s;
@@ -60,6 +62,7 @@ raise-none ends inside s filled p =
       few = omega arith;
       edges = λ i h. absurd (not-suc-le-zero h);
       becomes-full = λ e h. absurd (not-suc-le-zero h);
+      count-is = refl;
     }
 
 -- One edge
@@ -95,6 +98,9 @@ module _ (ends inside s₀ : List ℕ) (k : ℕ) (s filled : List ℕ) (count : 
   same-lift : lifted ends inside s k ≡ lifted ends inside s₀ k
   same-lift = rw same
 
+  same-fills : fills ends inside s k ≡ fills ends inside s₀ k
+  same-fills = rw same
+
   full-other : (e : ℕ) → e < k → (x : ℕ) → full (set s k x) e ≡ full s e
   full-other e i x = ap (λ y. eqb y 2) (getD-set-other s k e x 0 (λ q. omega arith))
 
@@ -106,6 +112,7 @@ module _ (ends inside s₀ : List ℕ) (k : ℕ) (s filled : List ℕ) (count : 
 
   -- k does not become full
   pub raise-other : (r : Bool) (s′ : List ℕ) → Lifts ends inside s k r s′ → r ≡ false → Raising ends inside s₀ (suc k) s′ filled count
+  unfolding countUpTo
   raise-other r s′ l p =
       rw (l .support)
       record {
@@ -114,6 +121,7 @@ module _ (ends inside s₀ : List ℕ) (k : ℕ) (s filled : List ℕ) (count : 
         few = omega (arith, w .few);
         edges = λ i g. omega (arith, w .edges i g);
         becomes-full = λ e g. below-suc k e g (λ m. full-other e m _ ∙ w .becomes-full e m) (λ q. rw q at-k);
+        count-is = omega (arith, w .count-is, ap bit (sym same-fills ∙ sym (l .becomes-full) ∙ p));
       }
     where
       at-k : full (set s k (lifted ends inside s k)) k ≡ (full s₀ k || listed count filled k)
@@ -121,7 +129,7 @@ module _ (ends inside s₀ : List ℕ) (k : ℕ) (s filled : List ℕ) (count : 
 
   -- k becomes full, and is listed
   pub raise-full : (r : Bool) (s′ : List ℕ) → length s₀ ≤ edgeLimit → Lifts ends inside s k r s′ → r ≡ true → Raising ends inside s₀ (suc k) s′ (set filled count k) (suc count)
-  unfolding someUpTo
+  unfolding someUpTo countUpTo
   raise-full r s′ limit l p =
       rw (l .support)
       record {
@@ -130,6 +138,7 @@ module _ (ends inside s₀ : List ℕ) (k : ℕ) (s filled : List ℕ) (count : 
         few = omega (arith, w .few);
         edges = λ i g. below-suc count i g (λ m. rw (earlier i m) (omega (arith, w .edges i m))) (λ q. rw (q, added) (omega arith));
         becomes-full = λ e g. below-suc k e g (λ m. full-other e m _ ∙ w .becomes-full e m ∙ ap (λ x. full s₀ e || x) (sym (more e m))) (λ q. rw q at-k);
+        count-is = omega (arith, w .count-is, ap bit (sym same-fills ∙ sym (l .becomes-full) ∙ p));
       }
     where
       earlier : (i : ℕ) → i < count → getD (set filled count k) i 0 ≡ getD filled i 0
@@ -152,4 +161,4 @@ module _ (ends inside s₀ : List ℕ) (k : ℕ) (s filled : List ℕ) (count : 
 -- the end
 pub raise-all : (ends inside s₀ s filled : List ℕ) (count : ℕ) → Raising ends inside s₀ (length s₀) s filled count → Raises ends inside s₀ s filled count
 raise-all ends inside s₀ s filled count w =
-    record { supports = fill-all (lifted ends inside s₀) s₀ s (w .supports); few = w .few; edges = w .edges; becomes-full = w .becomes-full }
+    record { supports = fill-all (lifted ends inside s₀) s₀ s (w .supports); few = w .few; edges = w .edges; becomes-full = w .becomes-full; count-is = w .count-is }

@@ -8,13 +8,11 @@ use native.Mathlib.Decide.{ℕ-discrete, decLt}
 use native.Mathlib.Omega.{arith}
 use lib.ListN.{length, getD, set, replicate, length-set, length-replicate, getD-replicate}
 use lib.Seq.{getD-set-same, getD-set-other}
-use borrow.Author.Tests.{eq-eqb, ne-eqb}
 use Rattle.model.specs.Board.{vertexLimit}
 use Rattle.model.specs.Components.{label}
-use Rattle.model.proofs.ListLaws.{zero-everywhere}
 use Rattle.model.proofs.SumLaws.{below-suc}
 use Rattle.union_find.specs.Trees.{rootOf}
-use Rattle.decoder.specs.TreeLabels.{Smallest, Names, Marks}
+use Rattle.decoder.specs.TreeLabels.{Smallest, Names}
 
 -- some vertex below k has the root r
 pub record Met (k : ℕ) (parent : List ℕ) (r : ℕ) : Type 0 where
@@ -110,32 +108,3 @@ module _ (k : ℕ) (parent first labels : List ℕ) (w : Naming k parent first l
           known = λ v l. below-suc k v l (λ m. w .known v m ∙ sym (label-kept _ v m)) (λ q. rw (q, sym is) (sym (label-new _)));
           met = λ x l. ⊎-elim inl (λ m. inr (record { by = m .by; below = omega (arith, m .below); root = m .root })) (w .met x l);
         }
-
--- The vertices of one tree
-
-pub mark-none : (parent : List ℕ) (r n : ℕ) → n ≡ vertexLimit → Marks 0 parent r (replicate n 0)
-mark-none parent r n p =
-    record {
-      long = length-replicate n 0 ∙ p;
-      at = λ u h. absurd (not-suc-le-zero h);
-      others = λ u h. zero-everywhere n u;
-    }
-
-module _ (k : ℕ) (parent : List ℕ) (r : ℕ) (marks : List ℕ) (w : Marks k parent r marks) where
-  pub mark-inside : k < vertexLimit → rootOf parent k ≡ r → Marks (suc k) parent r (set marks k 1)
-  mark-inside h same =
-      record {
-        long = simp length-set (w .long);
-        at = λ u l. below-suc k u l
-            (λ m. getD-set-other marks k u 1 0 (λ q. omega arith) ∙ w .at u m)
-            (λ q. rw (q, eq-eqb _ _ same) (getD-set-same marks k 1 0 (omega (arith, w .long))));
-        others = λ u l. getD-set-other marks k u 1 0 (λ q. omega arith) ∙ w .others u (omega arith);
-      }
-
-  pub mark-outside : (rootOf parent k ≡ r → ⊥) → Marks (suc k) parent r marks
-  mark-outside apart =
-      record {
-        long = w .long;
-        at = λ u l. below-suc k u l (w .at u) (λ q. rw (q, ne-eqb _ _ apart) (w .others k (le-refl _)));
-        others = λ u l. w .others u (omega arith);
-      }

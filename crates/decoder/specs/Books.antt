@@ -2,21 +2,22 @@
 -- Assumes nothing.
 use Prim.Native.Nat.{ℕ, _≤_, _<_}
 use mathlib.Core.Path.{_≡_}
-use mathlib.Core.Bool.{Bool, _&&_, _||_}
+use mathlib.Core.Bool.{Bool, not, _&&_, _||_}
 use mathlib.Core.List.{List}
 use lib.ListN.{length, getD}
-use Rattle.model.specs.Sums.{Set}
+use Rattle.model.specs.Sums.{Set, countUpTo, ones}
 use Rattle.model.specs.Board.{edgeLimit, unmarked, EndsWithin}
-use Rattle.model.specs.Components.{label, labels}
-use Rattle.model.specs.Growth.{clusters, grow}
+use Rattle.model.specs.Components.{labels}
+use Rattle.model.specs.Growth.{full, clusters, swell}
 use Rattle.model.specs.declared.numbers.Vertex.{Vertex}
 use Rattle.union_find.specs.declared.Joined.the-variants.{Hung}
 use Rattle.union_find.specs.Trees.{at, rootOf, Trees, Alone, Compressed}
 use Rattle.union_find.specs.Joining.{joined, sameRoot, Mirrors}
-use Rattle.decoder.specs.Gains.{Supports, listed}
+use Rattle.decoder.specs.Gains.{Marked, Supports, listed}
 use Rattle.decoder.specs.declared.book.Book.{Book}
 use Rattle.decoder.specs.declared.book.Found.{Found}
 use Rattle.decoder.specs.declared.book.Fused.{Fused}
+use Rattle.decoder.specs.declared.book.Grown.{Grown}
 
 -- the book's arrays are trees of its vertices
 abbrev pub Good : Book → Type 0
@@ -88,17 +89,16 @@ pub record FusesListed (b : Book) (ends filled : List ℕ) (k : ℕ) (r : Book) 
       Mirrors (b .vertices) (b .parent) (labels (unmarked (b .vertices) m ends) F) →
       Mirrors (b .vertices) (r .parent) (labels (unmarked (b .vertices) m ends) (withListed F k filled))
 
--- the book is that of the clusters of the supports, and the vertex is its cluster's label
-pub record Growable (b : Book) (ends : List ℕ) (a : ℕ) (s : List ℕ) : Type 0 where
+-- the book is that of the clusters of the supports, and each vertex has a mark
+pub record Growable (b : Book) (ends inside s : List ℕ) : Type 0 where
   pub lent : EndsWithin (b .vertices) (length s) ends
   pub supports : Supports s
+  pub marks : Marked inside
   pub good : Good b
   pub mirrors : Mirrors (b .vertices) (b .parent) (clusters (unmarked (b .vertices) (length s) ends) s)
-  pub vertex : a < b .vertices
-  pub named : label (clusters (unmarked (b .vertices) (length s) ends) s) a ≡ a
 
--- document 01's step 4: the supports after one growth, and the book of their clusters
-pub record Grows (b : Book) (ends : List ℕ) (a : ℕ) (s : List ℕ) (r : Found) (s′ : List ℕ) : Type 0 where
-  pub supports : s′ ≡ grow (unmarked (b .vertices) (length s) ends) s (clusters (unmarked (b .vertices) (length s) ends) s) a
+-- document 01's step 4: the supports after the marked vertices have grown, the book of their clusters, and how many edges became full
+pub record Grows (b : Book) (ends inside s : List ℕ) (r : Grown) (s′ : List ℕ) : Type 0 where
+  pub supports : s′ ≡ swell (unmarked (b .vertices) (length s) ends) s (ones inside)
   pub book : Holds (b .vertices) (r .book) (clusters (unmarked (b .vertices) (length s) ends) s′)
-  pub root : r .root .0 ≡ rootOf (r .book .parent) a
+  pub filled : r .filled ≡ countUpTo (length s) (λ e. full s′ e && not (full s e))

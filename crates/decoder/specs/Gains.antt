@@ -6,19 +6,19 @@ use mathlib.Core.Bool.{Bool, cond, not, _&&_, _||_}
 use mathlib.Core.List.{List}
 use lib.ListN.{length, getD, set}
 use lib.Dec.{eqb}
-use Rattle.model.specs.Sums.{Set, ones, someUpTo, values}
+use Rattle.model.specs.Sums.{Set, countUpTo, ones, someUpTo, values}
 use Rattle.model.specs.Board.{vertexLimit, edgeLimit, EndsWithin}
 use Rattle.model.specs.Growth.{full}
 
--- a cluster's vertices are marked: 1 inside, 0 outside
+-- the vertices that grow are marked: 1 for each of them, 0 for each other
 pub record Marked (inside : List ℕ) : Type 0 where
   pub small : (v : ℕ) → v < vertexLimit → getD inside v 0 ≤ 1
 
--- how many ends edge e has in the cluster that is so marked
+-- how many marked ends edge e has
 abbrev pub gains : List ℕ → List ℕ → ℕ → ℕ
 gains ends inside e = getD inside (getD ends (2 * e) 0) 0 + getD inside (getD ends (2 * e + 1) 0) 0
 
--- edge e's support after a growth of that cluster
+-- edge e's support after the marked vertices have grown
 abbrev pub lifted : List ℕ → List ℕ → List ℕ → ℕ → ℕ
 lifted ends inside s e = min 2 (getD s e 0 + gains ends inside e)
 
@@ -35,10 +35,14 @@ pub record Liftable (ends inside s : List ℕ) (e : ℕ) : Type 0 where
   pub edge : e < length s
   pub small : getD s e 0 ≤ 2
 
+-- edge e becomes full
+abbrev pub fills : List ℕ → List ℕ → List ℕ → Set
+fills ends inside s e = not (full s e) && eqb (lifted ends inside s e) 2
+
 -- one edge lifted, and whether it becomes full
 pub record Lifts (ends inside s : List ℕ) (e : ℕ) (r : Bool) (s′ : List ℕ) : Type 0 where
   pub support : s′ ≡ set s e (lifted ends inside s e)
-  pub becomes-full : r ≡ (not (full s e) && eqb (lifted ends inside s e) 2)
+  pub becomes-full : r ≡ fills ends inside s e
 
 -- every support is at most 2
 pub record Supports (s : List ℕ) : Type 0 where
@@ -60,6 +64,7 @@ pub record Raises (ends inside s s′ filled : List ℕ) (count : ℕ) : Type 0 
   pub few : count ≤ length s
   pub edges : (i : ℕ) → i < count → getD filled i 0 < length s
   pub becomes-full : (e : ℕ) → e < length s → full s′ e ≡ (full s e || listed count filled e)
+  pub count-is : count ≡ countUpTo (length s) (fills ends inside s)
 
 -- lost edges start full, others with nothing
 abbrev pub startOf : List ℕ → List ℕ

@@ -4,11 +4,15 @@ use Prim.Native.Nat.{ℕ}
 use mathlib.Core.Path.{_≡_}
 use mathlib.Core.List.{List}
 use lib.ListN.{length}
-use Rattle.model.specs.declared.answers.Decoded.{Decoded}
-use Rattle.model.specs.Sums.{bytes}
-use Rattle.model.specs.Board.{Sheet, sheetOf, edges, EndsWithin, ValidBytes, unmarked}
-use Rattle.model.specs.Decoding.{supports, corrected}
-use Rattle.model.specs.Outcomes.{keyOrNone, keyOr}
+use Rattle.model.specs.Sums.{Set, bytes}
+use Rattle.model.specs.Board.{Board, Sheet, sheetOf, edges, EndsWithin, ValidBytes, unmarked}
+use Rattle.model.specs.Winding.{size}
+use Rattle.model.specs.Growth.{Policy}
+use Rattle.model.specs.Decoding.{grownBy, peeled}
+use Rattle.model.specs.Refusals.{oddPartTest, decodeRefusal}
+use Rattle.model.specs.Outcomes.{answer}
+use Rattle.decoder.specs.declared.key.Solved.{Solved}
+use Rattle.decoder.specs.declared.key.Solved.the-variants.{Key, Refused}
 
 -- the sheet without its marks
 abbrev pub bare : ℕ → List ℕ → List ℕ → List ℕ → Sheet
@@ -21,12 +25,27 @@ pub record Keyable (n : ℕ) (ends syndrome loss support correction : List ℕ) 
   pub support-long : length support ≡ length loss
   pub correction-long : length correction ≡ length loss
 
+-- the answer by a policy once the tests are passed: number 10, or the key
+unfoldable pub solvedOrNone : (Board → Set → Policy) → Sheet → Solved
+solvedOrNone policy X = answer (oddPartTest X) Refused (Key (grownBy policy X .count) (size (X .board) (peeled X (grownBy policy X))))
+
+-- what a buffer holds afterwards: with a key its new contents, with a refusal its old ones
+abbrev pub solvedOr : {A : Type 0} → Solved → A → A → A
+solvedOr (Key g k) new old = new
+solvedOr (Refused n) new old = old
+
 -- the key, or number 10 with nothing written
-pub record Keys (X : Sheet) (support correction : List ℕ) (r : Decoded) (support′ correction′ : List ℕ) : Type 0 where
-  pub result : r ≡ keyOrNone X
-  pub support-bytes : support′ ≡ keyOr r (supports X) support
-  pub correction-bytes : correction′ ≡ keyOr r (bytes (edges (X .board)) (corrected X)) correction
+pub record Keys (policy : Board → Set → Policy) (X : Sheet) (support correction : List ℕ) (r : Solved) (support′ correction′ : List ℕ) : Type 0 where
+  pub result : r ≡ solvedOrNone policy X
+  pub support-bytes : support′ ≡ solvedOr r (grownBy policy X .support) support
+  pub correction-bytes : correction′ ≡ solvedOr r (bytes (edges (X .board)) (peeled X (grownBy policy X))) correction
+
+-- the same, after the tests
+pub record Solves (policy : Board → Set → Policy) (X : Sheet) (support correction : List ℕ) (r : Solved) (support′ correction′ : List ℕ) : Type 0 where
+  pub result : r ≡ answer (decodeRefusal X support correction) Refused (solvedOrNone policy X)
+  pub support-bytes : support′ ≡ solvedOr r (grownBy policy X .support) support
+  pub correction-bytes : correction′ ≡ solvedOr r (bytes (edges (X .board)) (peeled X (grownBy policy X))) correction
 
 -- how many bytes an answer writes into each buffer
-abbrev pub writtenBytes : Decoded → ℕ → ℕ
-writtenBytes r m = keyOr r m 0
+abbrev pub writtenBytes : Solved → ℕ → ℕ
+writtenBytes r m = solvedOr r m 0

@@ -2,6 +2,8 @@ pub mod Tallies
 pub mod Exposures
 pub mod TreeLabels
 pub mod Choices
+pub mod Growing
+pub mod OddClusters
 pub mod Gains
 pub mod Books
 pub mod Runs

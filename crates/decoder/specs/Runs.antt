@@ -2,16 +2,16 @@
 -- Assumes nothing.
 use Prim.Native.Nat.{ℕ, _*_}
 use mathlib.Core.Path.{_≡_}
-use mathlib.Core.Bool.{Bool, true, false}
 use mathlib.Core.List.{List}
-use mathlib.Core.Option.{Option, none, some}
+use mathlib.Core.Option.{none}
 use lib.ListN.{length}
-use Rattle.model.specs.Board.{unmarked, EndsWithin}
+use Rattle.model.specs.Board.{Board, unmarked, EndsWithin}
 use Rattle.model.specs.Sums.{Set, ones}
-use Rattle.model.specs.Growth.{start, clusters, choice, grow, Grown, chosen, growFrom}
+use Rattle.model.specs.Growth.{start, clusters, swell, Policy, chosen, Grown, growFrom}
 use Rattle.model.specs.Decoding.{smallestOdd}
 use Rattle.decoder.specs.declared.book.Book.{Book}
 use Rattle.decoder.specs.declared.growth.Stepped.{Stepped}
+use Rattle.decoder.specs.Growing.{nextOn, isSome}
 use Rattle.decoder.specs.Gains.{Supports}
 use Rattle.decoder.specs.Books.{Holds}
 
@@ -32,18 +32,10 @@ pub record Steppable (n m : ℕ) (b : Book) (ends syndrome s : List ℕ) : Type 
   pub supports : Supports s
   pub book : Holds n b (clusters (unmarked n m ends) s)
 
--- document 01's choice
-abbrev pub choiceOn : ℕ → ℕ → List ℕ → List ℕ → List ℕ → Option ℕ
-choiceOn n m ends syndrome s = choice (unmarked n m ends) s (clusters (unmarked n m ends) s) (ones syndrome)
-
-abbrev pub isSome : Option ℕ → Bool
-isSome none = false
-isSome (some a) = true
-
--- steps 3 and 4: the chosen cluster grows, if there is one
-pub record Steps (n m : ℕ) (ends syndrome s : List ℕ) (r : Stepped) (s′ : List ℕ) : Type 0 where
-  pub grew : r .grew ≡ isSome (choiceOn n m ends syndrome s)
-  pub supports : s′ ≡ chosen (choiceOn n m ends syndrome s) s (grow (unmarked n m ends) s (clusters (unmarked n m ends) s))
+-- the vertices that grow next grow, if there are any
+pub record Steps (policy : Board → Set → Policy) (n m : ℕ) (ends syndrome s : List ℕ) (r : Stepped) (s′ : List ℕ) : Type 0 where
+  pub grew : r .grew ≡ isSome (nextOn policy n m ends syndrome s)
+  pub supports : s′ ≡ chosen (nextOn policy n m ends syndrome s) s (swell (unmarked n m ends) s)
   pub book : Holds n (r .book) (clusters (unmarked n m ends) s′)
 
 -- a run from the start, on a board that has a correction
@@ -53,10 +45,10 @@ pub record Runnable (n m : ℕ) (b : Book) (ends syndrome s : List ℕ) : Type 0
   pub begins : s ≡ start (unmarked n m ends) lost
   pub none-odd : smallestOdd (unmarked n m ends) (ones syndrome) ≡ none
 
--- the growth count and the supports of the whole run
-abbrev pub runOf : ℕ → ℕ → List ℕ → List ℕ → List ℕ → Grown
-runOf n m ends syndrome s = growFrom (unmarked n m ends) (ones syndrome) (2 * m) s 0
+-- how often there was growth in the whole run, and its supports
+abbrev pub runOf : (Board → Set → Policy) → ℕ → ℕ → List ℕ → List ℕ → List ℕ → Grown
+runOf policy n m ends syndrome s = growFrom (unmarked n m ends) (nextOn policy n m ends syndrome) (2 * m) s 0
 
-pub record Runs (n m : ℕ) (ends syndrome s : List ℕ) (r : ℕ) (s′ : List ℕ) : Type 0 where
-  pub growths : r ≡ runOf n m ends syndrome s .growths
-  pub supports : s′ ≡ runOf n m ends syndrome s .support
+pub record Runs (policy : Board → Set → Policy) (n m : ℕ) (ends syndrome s : List ℕ) (r : ℕ) (s′ : List ℕ) : Type 0 where
+  pub count : r ≡ runOf policy n m ends syndrome s .count
+  pub supports : s′ ≡ runOf policy n m ends syndrome s .support

@@ -5,7 +5,7 @@ use mathlib.Core.Path.{_≡_}
 use mathlib.Core.List.{List}
 use lib.ListN.{length, getD}
 use lib.Dec.{eqb}
-use Rattle.model.specs.Sums.{bit}
+use Rattle.model.specs.Sums.{Set, bit}
 use Rattle.model.specs.Board.{vertexLimit}
 use Rattle.model.specs.Components.{label}
 use Rattle.union_find.specs.Trees.{rootOf, Rooted}
@@ -26,8 +26,12 @@ pub record Names (k : ℕ) (parent labels : List ℕ) : Type 0 where
   pub long : length labels ≡ vertexLimit
   pub each : (v : ℕ) → v < k → Smallest parent v (label labels v)
 
--- the first k vertices are marked where their root is r, the others are not
-pub record Marks (k : ℕ) (parent : List ℕ) (r : ℕ) (marks : List ℕ) : Type 0 where
+-- the vertices of the tree whose root is r
+abbrev pub tree : List ℕ → ℕ → Set
+tree parent r u = eqb (rootOf parent u) r
+
+-- the first k vertices are marked where they are in R, the others are not
+pub record Marks (k : ℕ) (R : Set) (marks : List ℕ) : Type 0 where
   pub long : length marks ≡ vertexLimit
-  pub at : (u : ℕ) → u < k → getD marks u 0 ≡ bit (eqb (rootOf parent u) r)
+  pub at : (u : ℕ) → u < k → getD marks u 0 ≡ bit (R u)
   pub others : (u : ℕ) → k ≤ u → getD marks u 0 ≡ 0

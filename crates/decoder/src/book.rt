@@ -1,4 +1,3 @@
-use crate::labels::tree_of;
 use crate::support::raise;
 use model::ends::first_end;
 use model::ends::second_end;
@@ -34,6 +33,12 @@ pub(crate) struct Found {
 pub(crate) struct Fused {
     pub(crate) book: Book,
     pub(crate) joined: Joined,
+}
+
+// A book, and how many edges became full.
+pub(crate) struct Grown {
+    pub(crate) book: Book,
+    pub(crate) filled: usize,
 }
 
 impl Book {
@@ -142,16 +147,23 @@ impl Book {
         book
     }
 
-    // One growth of the cluster that holds the given vertex: each edge that isn't full gains as many half-edges as it has ends in the
-    // cluster, up to 2. Then clusters joined by newly full edges fuse. The answer is the root of the cluster that has grown.
-    pub(crate) fn grow(self, ends: &[u16], cluster: Vertex, support: &mut [u8]) -> Found
-        requires { ⌜ Growable self (now ends) (cluster .0) (now support) ⌝ }
-        ensures { λ r. ⌜ Grows self (before ends) (cluster .0) (before support) r (after support) ⌝ }
+    // The marked vertices grow: each edge that isn't full gains as many half-edges as it has marked ends, up to 2. Then clusters joined by
+    // newly full edges fuse. The answer is how many edges became full.
+    pub(crate) fn grow(
+        self,
+        ends: &[u16],
+        inside: &[u8; Self::VERTICES],
+        support: &mut [u8],
+    ) -> Grown
+        requires { ⌜ Growable self (now ends) (now inside) (now support) ⌝ }
+        ensures { λ r. ⌜ Grows self (before ends) (before inside) (before support) r (after support) ⌝ }
     {
-        let inside = tree_of(self.vertices, &self.parent, cluster);
         let mut filled = [0u16; Self::EDGES];
-        let count = raise(ends, &inside, support, &mut filled);
+        let count = raise(ends, inside, support, &mut filled);
         let book = self.fuse_listed(ends, &filled, count);
-        book.find(cluster)
+        Grown {
+            book,
+            filled: count,
+        }
     }
 }

@@ -1,9 +1,10 @@
 use crate::book::Book;
-use crate::choice::Chosen;
-use crate::choice::choose;
+use crate::growing::Growth;
+use crate::growing::next;
 use crate::support::lose;
 ghost use lib.ListN.{length};
 ghost use Rattle.model.specs.Lent.{before, after};
+ghost use Rattle.decoder.specs.Growing.{policyOf};
 ghost use Rattle.decoder.specs.Runs.{Startable, Starts, Steppable, Steps, Runnable, Runs};
 
 // The supports before any growth, and the book of their clusters.
@@ -21,41 +22,52 @@ pub(crate) struct Stepped {
     pub(crate) grew: bool,
 }
 
-// One choice and one growth, or neither: if no cluster is odd, growth ends.
-pub(crate) fn step(book: Book, ends: &[u16], syndrome: &[u8], support: &mut [u8]) -> Stepped
+// One growth or one round: the vertices that grow next grow, if there are any.
+pub(crate) fn step(
+    growth: Growth,
+    book: Book,
+    ends: &[u16],
+    syndrome: &[u8],
+    support: &mut [u8],
+) -> Stepped
     requires { ⌜ Steppable (book .vertices) (length (now support)) book (now ends) (now syndrome) (now support) ⌝ }
     ensures { λ r.
-        ⌜ Steps (book .vertices) (length (before support)) (before ends) (before syndrome) (before support)
+        ⌜ Steps (policyOf growth) (book .vertices) (length (before support)) (before ends) (before syndrome) (before support)
         r (after support) ⌝ }
 {
-    match choose(book.vertices, &book.parent, ends, syndrome, support) {
-        Chosen::Nothing => Stepped { book, grew: false },
-        Chosen::Cluster(cluster) => {
-            let grown = book.grow(ends, cluster, support);
-            let next = grown.book;
-            Stepped {
-                book: next,
-                grew: true,
-            }
-        }
+    let following = next(growth, book.vertices, &book.parent, ends, syndrome, support);
+    if !following.any {
+        return Stepped { book, grew: false };
+    }
+    let grown = book.grow(ends, &following.inside, support);
+    let after = grown.book;
+    Stepped {
+        book: after,
+        grew: true,
     }
 }
 
-// Steps until no cluster is odd. Returns how often a cluster has grown.
-pub(crate) fn run(start: Book, ends: &[u16], syndrome: &[u8], support: &mut [u8]) -> usize
+// Steps until no cluster is odd. Returns how many growths or rounds there were.
+pub(crate) fn run(
+    growth: Growth,
+    start: Book,
+    ends: &[u16],
+    syndrome: &[u8],
+    support: &mut [u8],
+) -> usize
     requires { ⌜ Runnable (start .vertices) (length (now support)) start (now ends) (now syndrome) (now support) ⌝ }
     ensures { λ r.
-        ⌜ Runs (start .vertices) (length (before support)) (before ends) (before syndrome) (before support)
+        ⌜ Runs (policyOf growth) (start .vertices) (length (before support)) (before ends) (before syndrome) (before support)
         r (after support) ⌝ }
 {
     let mut book = start;
-    let mut growths = 0;
+    let mut count = 0;
     loop {
-        let stepped = step(book, ends, syndrome, support);
+        let stepped = step(growth, book, ends, syndrome, support);
         if !stepped.grew {
-            return growths;
+            return count;
         }
         book = stepped.book;
-        growths += 1;
+        count += 1;
     }
 }

@@ -1,46 +1,51 @@
+use crate::growing::Growth;
 use crate::growth::run;
 use crate::growth::start;
 use board::outcome::FoundVertex;
-use model::answers::Decoded;
 use model::refusal::Refusal;
 use parts::first_odd;
 use peeling::peel;
 ghost use mathlib.Core.Path.{_≡_};
 ghost use Rattle.model.specs.Lent.{before, after};
+ghost use Rattle.decoder.specs.Growing.{policyOf};
 ghost use Rattle.decoder.specs.Keys.{bare, Keyable, Keys, writtenBytes};
+
+// A key, with the number of growths or rounds and that of correction edges, or a refusal.
+pub(crate) enum Solved {
+    Key { count: usize, edges: usize },
+    Refused(Refusal),
+}
 
 // The key of a sheet that has passed the tests, or number 10, which leaves both buffers as they were. It looks at no marks.
 pub(crate) fn key(
+    growth: Growth,
     vertices: usize,
     ends: &[u16],
     syndrome: &[u8],
     loss: &[u8],
     support: &mut [u8],
     correction: &mut [u8],
-) -> Decoded
+) -> Solved
     requires { ⌜ Keyable vertices (now ends) (now syndrome) (now loss) (now support) (now correction) ⌝ }
     ensures { λ r.
-        ⌜ Keys (bare vertices (before ends) (before syndrome) (before loss)) (before support) (before correction)
+        ⌜ Keys (policyOf growth) (bare vertices (before ends) (before syndrome) (before loss)) (before support) (before correction)
         r (after support) (after correction) ⌝ }
 {
     if let FoundVertex::At(v) = first_odd(vertices, ends, syndrome) {
-        return Decoded::Refused(Refusal::NoCorrection(v));
+        return Solved::Refused(Refusal::NoCorrection(v));
     }
     let book = start(vertices, ends, loss, support);
-    let growths = run(book, ends, syndrome, support);
+    let count = run(growth, book, ends, syndrome, support);
     let edges = peel(vertices, ends, support, syndrome, correction);
-    Decoded::Key { growths, edges }
+    Solved::Key { count, edges }
 }
 
 // How many bytes of each lent buffer an answer writes: one for each edge, and none where it refuses.
-pub(crate) fn written(decoded: Decoded, edges: usize) -> usize
-    ensures { λ r. ⌜ r ≡ writtenBytes decoded edges ⌝ }
+pub(crate) fn written(solved: Solved, edges: usize) -> usize
+    ensures { λ r. ⌜ r ≡ writtenBytes solved edges ⌝ }
 {
-    match decoded {
-        Decoded::Key {
-            growths: _,
-            edges: _,
-        } => edges,
-        Decoded::Refused(_) => 0,
+    match solved {
+        Solved::Key { count: _, edges: _ } => edges,
+        Solved::Refused(_) => 0,
     }
 }

@@ -3,7 +3,7 @@ use model::numbers::Vertex;
 use union_find::root_of;
 ghost use Rattle.model.specs.Lent.{before};
 ghost use Rattle.union_find.specs.Trees.{rootOf, Rooted};
-ghost use Rattle.decoder.specs.TreeLabels.{RootedAt, Names, Marks};
+ghost use Rattle.decoder.specs.TreeLabels.{RootedAt, Names, tree, Marks};
 
 // No vertex of a tree is met yet.
 const UNMET: u16 = VERTICES as u16;
@@ -34,7 +34,7 @@ pub(crate) fn labels_of(vertices: usize, parent: &[u16; VERTICES]) -> [u16; VERT
 // A 1 for each vertex of the tree that holds the given one, a 0 for each other.
 pub(crate) fn tree_of(vertices: usize, parent: &[u16; VERTICES], member: Vertex) -> [u8; VERTICES]
     requires { ⌜ RootedAt vertices (now parent) (member .0) ⌝ }
-    ensures { λ r. ⌜ Marks vertices (before parent) (rootOf (before parent) (member .0)) r ⌝ }
+    ensures { λ r. ⌜ Marks vertices (tree (before parent) (rootOf (before parent) (member .0))) r ⌝ }
 {
     let root = root_of(parent, member);
     let mut inside = [0u8; VERTICES];

@@ -1,25 +1,28 @@
-// Decoding: tests, the parts of the whole board, growth on the cluster book, and peeling.
+// Decoding: tests, the parts of the whole board, growth on the cluster book, and peeling. Weighted growth and rounds differ in which clusters
+// grow, and in nothing else.
 mod book;
 mod choice;
 mod exposure;
+mod growing;
 mod growth;
 mod key;
 mod labels;
+mod odd_clusters;
+mod solve;
 mod support;
 mod tally;
 
-use crate::key::key;
-use crate::key::written;
-use board::copy::copy_bytes;
-use board::outcome::Check;
-use board::tests::check_decode;
+use crate::growing::Growth;
+use crate::key::Solved;
+use crate::solve::solve;
 use model::answers::Decoded;
-use model::limits::EDGES;
+use model::answers::RoundsDecoded;
 ghost use Rattle.model.specs.Lent.{before, after, sheetLent};
 ghost use Rattle.model.specs.Outcomes.{Decodes, DecodesSoundly};
+ghost use Rattle.model.specs.RoundsOutcomes.{DecodesInRounds, RoundsSoundly};
 
 // The key: the growth count and the number of correction edges, with a support byte and a correction byte for each edge; or a refusal,
-// which writes nothing. The key is made in arrays, of which as many bytes are copied as the answer writes.
+// which writes nothing.
 pub fn decode(
     vertices: usize,
     ends: &[u16],
@@ -36,7 +39,8 @@ pub fn decode(
         ⌜ DecodesSoundly (sheetLent vertices ends marks syndrome loss) (before support) (before correction)
         r (after correction) ⌝ }
 {
-    if let Check::Failed(refusal) = check_decode(
+    match solve(
+        Growth::Weighted,
         vertices,
         ends,
         marks,
@@ -45,21 +49,46 @@ pub fn decode(
         support,
         correction,
     ) {
-        return Decoded::Refused(refusal);
+        Solved::Key { count, edges } => Decoded::Key {
+            growths: count,
+            edges,
+        },
+        Solved::Refused(refusal) => Decoded::Refused(refusal),
     }
-    let edges = loss.len();
-    let mut new_support = [0u8; EDGES];
-    let mut new_correction = [0u8; EDGES];
-    let decoded = key(
+}
+
+// The key by rounds, in which all odd clusters grow together: the number of rounds in the place of growths, else as `decode`. What is
+// promised of winding is promised of `decode` alone.
+pub fn decode_rounds(
+    vertices: usize,
+    ends: &[u16],
+    marks: &[u8],
+    syndrome: &[u8],
+    loss: &[u8],
+    support: &mut [u8],
+    correction: &mut [u8],
+) -> RoundsDecoded
+    ensures key { λ r.
+        ⌜ DecodesInRounds (sheetLent vertices ends marks syndrome loss) (before support) (before correction)
+        r (after support) (after correction) ⌝ }
+    ensures sound { λ r.
+        ⌜ RoundsSoundly (sheetLent vertices ends marks syndrome loss) (before support) (before correction)
+        r (after support) (after correction) ⌝ }
+{
+    match solve(
+        Growth::Rounds,
         vertices,
         ends,
+        marks,
         syndrome,
         loss,
-        &mut new_support[..edges],
-        &mut new_correction[..edges],
-    );
-    let count = written(decoded, edges);
-    copy_bytes(&new_support, count, support);
-    copy_bytes(&new_correction, count, correction);
-    decoded
+        support,
+        correction,
+    ) {
+        Solved::Key { count, edges } => RoundsDecoded::RoundsKey {
+            rounds: count,
+            edges,
+        },
+        Solved::Refused(refusal) => RoundsDecoded::Refused(refusal),
+    }
 }

@@ -11,7 +11,7 @@ ghost use lib.ListN.{length};
 ghost use Rattle.model.specs.Lent.{before, after};
 ghost use Rattle.decoder.specs.Gains.{Gainable, gains, Liftable, Lifts, Raisable, Raises, startOf};
 
-// As many half-edges as the edge has ends in the cluster, which is marked by a 1 for each of its vertices.
+// As many half-edges as the edge has ends that grow, which are marked by a 1.
 fn gain(ends: &[u16], inside: &[u8; VERTICES], edge: Edge) -> HalfEdges
     requires { ⌜ Gainable (now ends) (now inside) (edge .0) ⌝ }
     ensures { λ r. ⌜ r .0 ≡ gains (before ends) (before inside) (edge .0) ⌝ }
@@ -24,7 +24,7 @@ fn gain(ends: &[u16], inside: &[u8; VERTICES], edge: Edge) -> HalfEdges
         return HalfEdges(1);
     }
     if x == 1 {
-        return HalfEdges(2); // an inner edge
+        return HalfEdges(2); // both ends grow
     }
     HalfEdges(0)
 }
@@ -41,7 +41,7 @@ fn raised(support: HalfEdges, gain: HalfEdges) -> HalfEdges
     HalfEdges(FULL.0)
 }
 
-// An edge that isn't full gains as many half-edges as it has ends in the cluster. Says whether it becomes full.
+// An edge that isn't full gains as many half-edges as it has ends that grow. Says whether it becomes full.
 fn lift(ends: &[u16], inside: &[u8; VERTICES], support: &mut [u8], edge: Edge) -> bool
     requires { ⌜ Liftable (now ends) (now inside) (now support) (edge .0) ⌝ }
     ensures { λ r. ⌜ Lifts (before ends) (before inside) (before support) (edge .0) r (after support) ⌝ }
@@ -57,7 +57,7 @@ fn lift(ends: &[u16], inside: &[u8; VERTICES], support: &mut [u8], edge: Edge) -
     after.is_full()
 }
 
-// One growth of the cluster: lifts every edge. The edges that become full are listed, rising, and their number is returned.
+// The marked vertices grow: every edge is lifted. The edges that become full are listed, rising, and their number is returned.
 pub(crate) fn raise(
     ends: &[u16],
     inside: &[u8; VERTICES],

@@ -7,10 +7,10 @@ use Rattle.model.specs.Sums.{oddUpTo, countUpTo, someUpTo, firstUpTo, va
 use Rattle.model.specs.Syndrome.{syndrome}
 use Rattle.model.specs.Winding.{closed, crossings, winds}
 use Rattle.model.specs.Components.{labelsUpTo, labels}
-use Rattle.model.specs.Growth.{start, clusters, odd, exposed, boundary, choiceUpTo, choice, grow, growFrom, grown}
+use Rattle.model.specs.Growth.{start, clusters, odd, exposed, boundary, choiceUpTo, choice, swell, weighted, growFrom, grown}
 use Rattle.model.specs.Forest.{takenUpTo, forest}
 use Rattle.model.specs.Correction.{oddSide, correction}
-use Rattle.model.specs.Decoding.{parts, inOddPart, smallestOdd, growths, supports, corrected}
+use Rattle.model.specs.Decoding.{parts, inOddPart, smallestOdd, grownBy, peeled}
 use Rattle.model.specs.Distance.{fewestFrom, fewest}
 use Rattle.model.specs.Text.{decimalUpTo, decimal, fieldsOf, partedBy, numberFrom, number, numbers, fromFields, lineFrom, step, readOn, readLines, readText}
 use Rattle.model.specs.Report.{reportLine, edgeLines, distanceLine, refusalLine, keyReport, sheetReport, reportOf}
@@ -34,7 +34,7 @@ lit3 = 83 ∷ 9 ∷ 51 ∷ 10 ∷ []
 
 -- G 2, C 3, D 4
 pub ring-report : reportOf (ring ++ lit0 ++ lit3) ≡ 71 ∷ 9 ∷ 50 ∷ 10 ∷ 67 ∷ 9 ∷ 51 ∷ 10 ∷ 68 ∷ 9 ∷ 52 ∷ 10 ∷ []
-unfolding ring lit0 lit3 reportOf sheetReport keyReport refusalLine distanceLine edgeLines reportLine decimalUpTo decimal fieldsOf partedBy numberFrom number numbers fromFields lineFrom step readOn readLines readText members oddUpTo countUpTo someUpTo firstUpTo values syndrome closed crossings winds labelsUpTo labels start clusters odd exposed boundary choiceUpTo choice grow growFrom grown takenUpTo forest oddSide correction parts inOddPart smallestOdd growths supports corrected fewestFrom fewest
+unfolding ring lit0 lit3 reportOf sheetReport keyReport refusalLine distanceLine edgeLines reportLine decimalUpTo decimal fieldsOf partedBy numberFrom number numbers fromFields lineFrom step readOn readLines readText members oddUpTo countUpTo someUpTo firstUpTo values syndrome closed crossings winds labelsUpTo labels start clusters odd exposed boundary choiceUpTo choice swell weighted growFrom grown takenUpTo forest oddSide correction parts inOddPart smallestOdd grownBy peeled fewestFrom fewest
 ring-report = refl
 
 -- N 10 0
@@ -44,14 +44,14 @@ odd-report = refl
 
 -- a vertex alone, V 1: G 0, D -
 pub point-report : reportOf (86 ∷ 9 ∷ 49 ∷ 10 ∷ []) ≡ 71 ∷ 9 ∷ 48 ∷ 10 ∷ 68 ∷ 9 ∷ 45 ∷ 10 ∷ []
-unfolding reportOf sheetReport keyReport refusalLine distanceLine edgeLines reportLine decimalUpTo decimal fieldsOf partedBy numberFrom number numbers fromFields lineFrom step readOn readLines readText members oddUpTo countUpTo someUpTo firstUpTo values syndrome closed crossings winds labelsUpTo labels start clusters odd exposed boundary choiceUpTo choice grow growFrom grown takenUpTo forest oddSide correction parts inOddPart smallestOdd growths supports corrected fewestFrom fewest
+unfolding reportOf sheetReport keyReport refusalLine distanceLine edgeLines reportLine decimalUpTo decimal fieldsOf partedBy numberFrom number numbers fromFields lineFrom step readOn readLines readText members oddUpTo countUpTo someUpTo firstUpTo values syndrome closed crossings winds labelsUpTo labels start clusters odd exposed boundary choiceUpTo choice swell weighted growFrom grown takenUpTo forest oddSide correction parts inOddPart smallestOdd grownBy peeled fewestFrom fewest
 point-report = refl
 
 -- the torus of side 1, V 1, E 0 0 1, E 0 0 2: G 0, D 1
 pub loops-report :
     reportOf ((86 ∷ 9 ∷ 49 ∷ 10 ∷ []) ++ (69 ∷ 9 ∷ 48 ∷ 9 ∷ 48 ∷ 9 ∷ 49 ∷ 10 ∷ []) ++ (69 ∷ 9 ∷ 48 ∷ 9 ∷ 48 ∷ 9 ∷ 50 ∷ 10 ∷ []))
     ≡ 71 ∷ 9 ∷ 48 ∷ 10 ∷ 68 ∷ 9 ∷ 49 ∷ 10 ∷ []
-unfolding reportOf sheetReport keyReport refusalLine distanceLine edgeLines reportLine decimalUpTo decimal fieldsOf partedBy numberFrom number numbers fromFields lineFrom step readOn readLines readText members oddUpTo countUpTo someUpTo firstUpTo values syndrome closed crossings winds labelsUpTo labels start clusters odd exposed boundary choiceUpTo choice grow growFrom grown takenUpTo forest oddSide correction parts inOddPart smallestOdd growths supports corrected fewestFrom fewest
+unfolding reportOf sheetReport keyReport refusalLine distanceLine edgeLines reportLine decimalUpTo decimal fieldsOf partedBy numberFrom number numbers fromFields lineFrom step readOn readLines readText members oddUpTo countUpTo someUpTo firstUpTo values syndrome closed crossings winds labelsUpTo labels start clusters odd exposed boundary choiceUpTo choice swell weighted growFrom grown takenUpTo forest oddSide correction parts inOddPart smallestOdd grownBy peeled fewestFrom fewest
 loops-report = refl
 
 -- an S line twice: N 13 7

@@ -42,8 +42,13 @@ pub record AnswersNone {A : Type 0} (refused : Refusal → A) (r : A) : Type 0 w
 abbrev pub Unmet : Board → Set → Type 0
 Unmet B S = (E : Set) → HasSyndrome B E S → ⊥
 
--- "No correction" exactly when no set of edges has the syndrome; else the correction has it, and the bounds hold for every set with it.
-pub record Demand3 (B : Board) (S lost : Set) (r : Decoded) (C : Set) : Type 0 where
-  pub none-exactly : AnswersNone Refused r ↔ Unmet B S
-  pub met : (growths edges : ℕ) → r ≡ Key growths edges → HasSyndrome B C S
-  pub bounded : (growths edges : ℕ) → r ≡ Key growths edges → (E : Set) → HasSyndrome B E S → Bounded B lost C growths E
+-- What a decoding's answer r and its correction C owe to the syndrome S, whatever grew: "no correction" exactly when no set of edges has the
+-- syndrome; else the correction has it, and `Each` holds of the count in the key and of every set with it. An answer is made by `refused` or `key`.
+pub record SoundKey {A : Type 0} (refused : Refusal → A) (key : ℕ → ℕ → A) (B : Board) (S C : Set) (Each : ℕ → Set → Type 0) (r : A) : Type 0 where
+  pub none-exactly : AnswersNone refused r ↔ Unmet B S
+  pub met : (count edges : ℕ) → r ≡ key count edges → HasSyndrome B C S
+  pub bounded : (count edges : ℕ) → r ≡ key count edges → (E : Set) → HasSyndrome B E S → Each count E
+
+-- Demand 3: so it is, and the bounds hold of the growths and every set with the syndrome.
+abbrev pub Demand3 : Board → Set → Set → Decoded → Set → Type 0
+Demand3 B S lost r C = SoundKey Refused Key B S C (Bounded B lost C) r

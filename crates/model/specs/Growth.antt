@@ -1,5 +1,5 @@
 -- Document 01, "Growth", steps 1 to 4: the weighted growth of source document 000 (its sections 2, 4 and 5). The steps settle what
--- that text leaves open, ties and the unit of work.
+-- that text leaves open, ties and the unit of work. Which clusters grow is a policy by itself, of which `Rounds` has another.
 -- Assumes nothing.
 use Prim.Native.Nat.{ℕ, zero, suc, _+_, _*_, min}
 use mathlib.Core.Bool.{Bool, cond, not, _&&_}
@@ -10,7 +10,7 @@ use lib.Dec.{eqb, ltb}
 use Rattle.model.specs.Sums.{Set, bit, oddUpTo, countUpTo, someUpTo, values}
 use Rattle.model.specs.Board.{Board, edges, firstEnd, secondEnd}
 use Rattle.model.specs.Syndrome.{touches}
-use Rattle.model.specs.Components.{labels, within}
+use Rattle.model.specs.Components.{labels, label, within}
 
 -- Step 1: the supports before any growth, in half-edges (0, 1 or 2 for an edge): 2 for a lost edge, 0 for any other.
 unfoldable pub start : Board → Set → List ℕ
@@ -27,6 +27,10 @@ clusters B s = labels B (full s)
 -- Step 2: cluster a is odd, by the parity of its syndrome vertices. A label that no vertex has is never odd.
 unfoldable pub odd : Board → List ℕ → Set → ℕ → Bool
 odd B l S a = oddUpTo (B .vertices) (λ v. S v && within l a v)
+
+-- v lies in an odd cluster
+abbrev pub inOdd : Board → List ℕ → Set → Set
+inOdd B l S v = odd B l S (label l v)
 
 -- Step 2: v touches some edge that isn't full.
 unfoldable pub exposed : Board → List ℕ → ℕ → Bool
@@ -51,29 +55,40 @@ choiceUpTo B s l S (suc a) = better B s l S a (choiceUpTo B s l S a)
 unfoldable pub choice : Board → List ℕ → List ℕ → Set → Option ℕ
 choice B s l S = choiceUpTo B s l S (B .vertices)
 
--- Step 4: one growth of cluster a. An edge gains a half-edge for each of its ends in a, an inner edge thus two, but never has more than 2;
--- a full edge stays as it is. Clusters fuse by definition: those of the new supports are the components by what is full now.
-unfoldable pub grow : Board → List ℕ → List ℕ → ℕ → List ℕ
-grow B s l a =
-    values (edges B) (λ e. min 2 (getD s e 0 + bit (within l a (firstEnd B e)) + bit (within l a (secondEnd B e))))
+-- Step 4: each edge gains a half-edge for each of its ends in R, where both are, thus two, but never has more than 2; a full edge stays as it
+-- is. Clusters fuse by definition: those of the new supports are the components by what is full now.
+unfoldable pub swell : Board → List ℕ → Set → List ℕ
+swell B s R = values (edges B) (λ e. min 2 (getD s e 0 + bit (R (firstEnd B e)) + bit (R (secondEnd B e))))
 
--- supports, and the number of growths (step 4) that led to them
-pub record Grown : Type 0 where
-  pub support : List ℕ
-  pub growths : ℕ
+-- Step 4: one growth of cluster a
+abbrev pub grow : Board → List ℕ → List ℕ → ℕ → List ℕ
+grow B s l a = swell B s (within l a)
 
--- Step 3: without an odd cluster to choose, stop; otherwise grow the chosen one.
-abbrev pub chosen : {A : Type 0} → Option ℕ → A → (ℕ → A) → A
+-- A policy says by the supports which vertices grow next, all at once, or that growth is over.
+abbrev pub Policy : Type 0
+Policy = List ℕ → Option Set
+
+-- what is chosen goes on, and without a choice it stops
+abbrev pub chosen : {A C : Type 0} → Option C → A → (C → A) → A
 chosen none stop grow = stop
 chosen (some a) stop grow = grow a
 
--- steps 3 and 4 over and over, at most k times
-unfoldable pub growFrom : Board → Set → ℕ → List ℕ → ℕ → Grown
-growFrom B S zero s g = record { support = s; growths = g }
-growFrom B S (suc k) s g =
+-- Step 3: without an odd cluster to choose, stop; otherwise grow the chosen one.
+unfoldable pub weighted : Board → Set → Policy
+weighted B S s =
     let l = clusters B s in
-    chosen (choice B s l S) (record { support = s; growths = g }) (λ a. growFrom B S k (grow B s l a) (suc g))
+    chosen (choice B s l S) none (λ a. some (within l a))
 
--- Growth from the start. Twice the number of edges is enough steps wherever a correction exists (theory, `growth-ends`).
-unfoldable pub grown : Board → Set → Set → Grown
-grown B S lost = growFrom B S (2 * edges B) (start B lost) 0
+-- supports, and how often there was growth before them: growths (step 4), or rounds
+pub record Grown : Type 0 where
+  pub support : List ℕ
+  pub count : ℕ
+
+-- growth by a policy, over and over, at most k times
+unfoldable pub growFrom : Board → Policy → ℕ → List ℕ → ℕ → Grown
+growFrom B p zero s g = record { support = s; count = g }
+growFrom B p (suc k) s g = chosen (p s) (record { support = s; count = g }) (λ R. growFrom B p k (swell B s R) (suc g))
+
+-- Growth from the start. Twice the number of edges is often enough wherever a correction exists (theory, `growth-ends`).
+unfoldable pub grown : Board → Policy → Set → Grown
+grown B p lost = growFrom B p (2 * edges B) (start B lost) 0

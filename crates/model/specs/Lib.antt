@@ -5,6 +5,7 @@ pub mod Syndrome
 pub mod Winding
 pub mod Components
 pub mod Growth
+pub mod Rounds
 pub mod Forest
 pub mod Correction
 pub mod Decoding
@@ -15,6 +16,7 @@ pub mod Torus
 pub mod Refusals
 pub mod Precedence
 pub mod Outcomes
+pub mod RoundsOutcomes
 pub mod MarkedSheets
 pub mod Text
 pub mod LineNumbers

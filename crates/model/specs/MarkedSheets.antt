@@ -9,20 +9,23 @@ use mathlib.Core.Option.{none, some}
 use lib.ListN.{length, replicate}
 use lib.Dec.{eqb}
 use Rattle.model.specs.declared.answers.Decoded.the-variants.{Key, Refused}
+use Rattle.model.specs.declared.answers.RoundsDecoded.the-variants as inRounds
 use Rattle.model.specs.Sums.{Set, oddUpTo, countUpTo, someUpTo, firstUpTo, values, ones, bytes, members}
 use Rattle.model.specs.Board.{Board, Sheet, edges}
 use Rattle.model.specs.Syndrome.{syndrome}
 use Rattle.model.specs.Winding.{closed, crossings, winds, together}
 use Rattle.model.specs.Components.{labelsUpTo, labels}
-use Rattle.model.specs.Growth.{start, full, clusters, odd, exposed, boundary, choiceUpTo, choice, grow, growFrom, grown}
+use Rattle.model.specs.Growth.{start, full, clusters, odd, exposed, boundary, choiceUpTo, choice, swell, grow, weighted, growFrom, grown}
+use Rattle.model.specs.Rounds.{allOdd}
 use Rattle.model.specs.Forest.{takenUpTo, forest}
 use Rattle.model.specs.Correction.{oddSide, correction}
-use Rattle.model.specs.Decoding.{parts, inOddPart, smallestOdd, growths, supports, corrected}
+use Rattle.model.specs.Decoding.{parts, inOddPart, smallestOdd, grownBy, peeled, supports, corrected, roundSupports, roundCorrected}
 use Rattle.model.specs.Demand3.{lostEdges, keptEdges}
 use Rattle.model.specs.Distance.{fewestFrom, fewest}
 use Rattle.model.specs.Torus.{torusEnds, torusMarks, torus}
 use Rattle.model.specs.Refusals.{noneAt, decodeRefusal}
 use Rattle.model.specs.Outcomes.{keyOrNone, decodeAnswer}
+use Rattle.model.specs.RoundsOutcomes.{roundsOrNone, roundsAnswer}
 
 -- the set of the numbers on a list
 unfoldable pub setOf : List ℕ → Set
@@ -74,6 +77,12 @@ pub record Keyed (X : Sheet) (steps : ℕ) (edges : List ℕ) : Type 0 where
 -- these edges end full
 abbrev pub EndFull : Sheet → List ℕ → Type 0
 EndFull X e = members (edges (X .board)) (full (supports X)) ≡ e
+
+-- in rounds: this many of them, this correction, and these supports
+pub record RoundsKeyed (X : Sheet) (count : ℕ) (edges support : List ℕ) : Type 0 where
+  pub answers : roundsAnswer X (blank X) (blank X) ≡ inRounds.RoundsKey count (length edges)
+  pub corrects : members (length (X .board .marks)) (roundCorrected X) ≡ edges
+  pub supports : roundSupports X ≡ support
 
 -- the table answers 10 and shows the vertex v
 abbrev pub NoKey : Sheet → ℕ → Type 0
@@ -164,13 +173,18 @@ pub record MarkedSheets : Type 0 where
   pub loops-weight : weight loops (0 ∷ 1 ∷ 2 ∷ []) ≡ 5
   pub loops-gain : grow looped (0 ∷ 0 ∷ 2 ∷ []) (0 ∷ 1 ∷ []) 0 ≡ 2 ∷ 1 ∷ 2 ∷ []
   pub loops-distance : fewest looped ≡ some 1
+  pub m1-rounds : RoundsKeyed m1 1 (3 ∷ []) (1 ∷ 0 ∷ 1 ∷ 2 ∷ [])
+  pub m4-rounds : RoundsKeyed m4 3 (0 ∷ 1 ∷ 2 ∷ []) (2 ∷ 2 ∷ 2 ∷ [])
+  pub m5-rounds : roundsAnswer m5 (blank m5) (blank m5) ≡ inRounds.Refused (noneAt 0)
+  pub m9-rounds : RoundsKeyed m9 0 [] []
+  pub loops-rounds : RoundsKeyed loops 1 (1 ∷ []) (2 ∷ 2 ∷ 2 ∷ [])
   pub side-one : torus 1 ≡ sideOne
   pub side-one-key : Keyed (sheet sideOne [] []) 0 []
   pub side-one-none : NoKey (sheet sideOne (0 ∷ []) []) 0
   pub side-one-distance : fewest sideOne ≡ some 1
 
 pub marked-sheets : MarkedSheets
-unfolding members setOf sheet oddUpTo countUpTo someUpTo firstUpTo values syndrome closed crossings winds labelsUpTo labels start clusters odd exposed boundary choiceUpTo choice grow growFrom grown takenUpTo forest oddSide correction parts inOddPart smallestOdd growths supports corrected fewestFrom fewest torusEnds torusMarks torus decodeRefusal keyOrNone decodeAnswer
+unfolding members setOf sheet oddUpTo countUpTo someUpTo firstUpTo values syndrome closed crossings winds labelsUpTo labels start clusters odd exposed boundary choiceUpTo choice swell weighted allOdd growFrom grown takenUpTo forest oddSide correction parts inOddPart smallestOdd grownBy peeled fewestFrom fewest torusEnds torusMarks torus decodeRefusal keyOrNone decodeAnswer roundsOrNone roundsAnswer
 marked-sheets =
     record {
       m1-key = record { answers = refl; corrects = refl };
@@ -200,6 +214,11 @@ marked-sheets =
       loops-weight = refl;
       loops-gain = refl;
       loops-distance = refl;
+      m1-rounds = record { answers = refl; corrects = refl; supports = refl };
+      m4-rounds = record { answers = refl; corrects = refl; supports = refl };
+      m5-rounds = refl;
+      m9-rounds = record { answers = refl; corrects = refl; supports = refl };
+      loops-rounds = record { answers = refl; corrects = refl; supports = refl };
       side-one = refl;
       side-one-key = record { answers = refl; corrects = refl };
       side-one-none = refl;

@@ -10,6 +10,8 @@ use Rattle.model.specs.declared.refusal.Refusal.{Refusal}
 use Rattle.model.specs.declared.refusal.Refusal.the-variants.{VertexCount, EndCount, BufferLength, EndRange, MarkRange, SyndromeByte, LossByte, HandedByte, NoCorrection, TorusSide, TextLength, MalformedLine, TextBuffer}
 use Rattle.model.specs.declared.answers.Decoded.{Decoded}
 use Rattle.model.specs.declared.answers.Decoded.the-variants as decoded
+use Rattle.model.specs.declared.answers.RoundsDecoded.{RoundsDecoded}
+use Rattle.model.specs.declared.answers.RoundsDecoded.the-variants as inRounds
 use Rattle.model.specs.declared.answers.Verdict.{Verdict}
 use Rattle.model.specs.declared.answers.Verdict.the-variants as verdict
 use Rattle.model.specs.declared.answers.Distance.{Distance}
@@ -35,6 +37,11 @@ packedRefusal n = numberOf n + 2 ^ 8 * (placeOf n % 2 ^ 56)
 abbrev pub packedDecoded : Decoded → ℕ
 packedDecoded (decoded.Key growths edges) = packed growths edges
 packedDecoded (decoded.Refused n) = packedRefusal n
+
+-- rounds, correction edges
+abbrev pub packedRounds : RoundsDecoded → ℕ
+packedRounds (inRounds.RoundsKey rounds edges) = packed rounds edges
+packedRounds (inRounds.Refused n) = packedRefusal n
 
 -- 1 off with the vertex, 2 same, 3 wound with the value
 abbrev pub packedVerdict : Verdict → ℕ
@@ -115,6 +122,9 @@ unpacked refused values r =
 
 unfoldable pub unpackedDecoded : ℕ → Decoded
 unpackedDecoded = unpacked decoded.Refused decoded.Key
+
+unfoldable pub unpackedRounds : ℕ → RoundsDecoded
+unpackedRounds = unpacked inRounds.Refused inRounds.RoundsKey
 
 -- 1 is off, 2 same, and the only other first value is 3
 abbrev pub verdictWith : ℕ → ℕ → Verdict

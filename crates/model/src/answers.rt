@@ -7,6 +7,12 @@ pub enum Decoded {
     Refused(Refusal),
 }
 
+// What decoding in rounds answers: the number of rounds, which is no growth count, and that of correction edges, or a refusal.
+pub enum RoundsDecoded {
+    RoundsKey { rounds: usize, edges: usize },
+    Refused(Refusal),
+}
+
 // What the verdict on a handed-in set answers: off with a vertex, same, wound with a mark value, or decoding's own refusal.
 pub enum Verdict {
     Off(Vertex),

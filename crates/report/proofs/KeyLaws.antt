@@ -12,6 +12,7 @@ use Rattle.model.specs.declared.answers.Distance.{Distance}
 use Rattle.model.specs.Sums.{bit, ones, bytes}
 use Rattle.model.specs.Board.{Board, Sheet, Valid, edges}
 use Rattle.model.specs.Winding.{size}
+use Rattle.model.specs.Growth.{weighted}
 use Rattle.model.specs.Decoding.{smallestOdd, growths, corrected}
 use Rattle.model.specs.Distance.{fewest}
 use Rattle.model.specs.Refusals.{noneAt, distanceRefusal}
@@ -20,7 +21,7 @@ use Rattle.model.specs.Report.{letterG, letterC, edgeLines, distanceLine, refus
 use Rattle.model.proofs.Contradiction.{zero-one}
 use Rattle.model.proofs.ListLaws.{length-values, ones-bytes}
 use Rattle.theory.proofs.MarkedBytes.{members-cong}
-use Rattle.theory.proofs.AnswerBounds.{growths-bound}
+use Rattle.theory.proofs.AnswerBounds.{count-limit}
 use Rattle.theory.proofs.Decodings.{passed-answer, none-answer, key-answer}
 use Rattle.board.proofs.Validity.{passes-board, enough-long}
 use Rattle.board.proofs.Calls.{passes-decode}
@@ -131,6 +132,6 @@ module _
             let same : g ≡ growths X = cc in
             let is = d .correction-bytes ∙ ap (λ x. keyOr x (bytes (edges (X .board)) (corrected X)) correction) key in
             record {
-              limit = rw same (growths-bound X);
+              limit = rw same (count-limit weighted X);
               report-is = ap₂ (keyLines (X .board)) same is ∙ key-lines X ∙ sym (even-report X p);
             }

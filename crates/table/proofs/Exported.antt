@@ -4,6 +4,7 @@ use Prim.Native.Nat.{ℕ, _^_, _<_}
 use mathlib.Core.Path.{_≡_, sym, ap, _∙_, subst}
 use mathlib.Core.List.{List}
 use Rattle.model.specs.declared.answers.Decoded.{Decoded}
+use Rattle.model.specs.declared.answers.RoundsDecoded.{RoundsDecoded}
 use Rattle.model.specs.declared.answers.Verdict.{Verdict}
 use Rattle.model.specs.declared.answers.Distance.{Distance}
 use Rattle.model.specs.declared.answers.Built.{Built}
@@ -12,10 +13,11 @@ use Rattle.model.specs.declared.answers.Written.{Written}
 use Rattle.model.specs.Board.{Board, Sheet}
 use Rattle.model.specs.Outcomes.{decodeAnswer, Decodes, DecodesSoundly, verdictAnswer, Judges, JudgesSoundly}
 use Rattle.model.specs.Outcomes.{distanceAnswer, Measures, torusAnswer, Builds}
+use Rattle.model.specs.RoundsOutcomes.{roundsAnswer, DecodesInRounds, RoundsSoundly}
 use Rattle.model.specs.TextOutcomes.{Buffers, counts, readOutcome, Reads, writeAnswer, Writes}
-use Rattle.model.specs.Packing.{packedDecoded, packedVerdict, packedDistance, packedBuilt, packedReading, packedWritten}
-use Rattle.model.specs.Packing.{unpackedDecoded, unpackedVerdict, unpackedDistance, unpackedBuilt, unpackedReading, unpackedWritten}
-use Rattle.table.proofs.Returned.{decode-returned, verdict-returned, distance-returned, torus-returned, read-returned, write-returned}
+use Rattle.model.specs.Packing.{packedDecoded, packedRounds, packedVerdict, packedDistance, packedBuilt, packedReading, packedWritten}
+use Rattle.model.specs.Packing.{unpackedDecoded, unpackedRounds, unpackedVerdict, unpackedDistance, unpackedBuilt, unpackedReading, unpackedWritten}
+use Rattle.table.proofs.Returned.{decode-returned, rounds-returned, verdict-returned, distance-returned, torus-returned, read-returned, write-returned}
 
 exported : {A : Type 0} (pack : A → ℕ) (unpack : ℕ → A) (P : A → Type 0) {a b : A} {r : ℕ} → unpack (pack b) ≡ b → a ≡ b → r ≡ pack a → P a
     → (r ≡ pack b) × P (unpack r)
@@ -30,6 +32,14 @@ pub decode-exported : {X : Sheet} {support correction : List ℕ} {a : Decoded} 
 decode-exported {X} {support} {correction} {a} {s} {k} p w =
     exported packedDecoded unpackedDecoded (λ d. Decodes X support correction d s k × DecodesSoundly X support correction d k)
     (decode-returned X support correction) (w .0 .result) p w
+
+pub rounds-exported : {X : Sheet} {support correction : List ℕ} {a : RoundsDecoded} {s k : List ℕ} {r : ℕ} → r ≡ packedRounds a
+    → DecodesInRounds X support correction a s k × RoundsSoundly X support correction a s k
+    → (r ≡ packedRounds (roundsAnswer X support correction))
+    × (DecodesInRounds X support correction (unpackedRounds r) s k × RoundsSoundly X support correction (unpackedRounds r) s k)
+rounds-exported {X} {support} {correction} {a} {s} {k} p w =
+    exported packedRounds unpackedRounds (λ d. DecodesInRounds X support correction d s k × RoundsSoundly X support correction d s k)
+    (rounds-returned X support correction) (w .0 .result) p w
 
 pub verdict-exported : {X : Sheet} {handed : List ℕ} {a : Verdict} {r : ℕ} → r ≡ packedVerdict a → Judges X handed a × JudgesSoundly X handed a
     → (r ≡ packedVerdict (verdictAnswer X handed)) × (Judges X handed (unpackedVerdict r) × JudgesSoundly X handed (unpackedVerdict r))

@@ -11,6 +11,7 @@ use lib.Dec.{eqb, leb}
 use Rattle.model.specs.declared.refusal.Refusal.{Refusal}
 use Rattle.model.specs.declared.refusal.Refusal.the-variants.{TorusSide}
 use Rattle.model.specs.declared.answers.Decoded.the-variants as decoded
+use Rattle.model.specs.declared.answers.RoundsDecoded.the-variants as inRounds
 use Rattle.model.specs.declared.answers.Verdict.the-variants as verdict
 use Rattle.model.specs.declared.answers.Distance.the-variants as distance
 use Rattle.model.specs.declared.answers.Built.the-variants as built
@@ -19,18 +20,21 @@ use Rattle.model.specs.declared.answers.Written.the-variants as written
 use Rattle.model.specs.Sums.{Set, ones}
 use Rattle.model.specs.Board.{Board, Sheet, Valid, edges}
 use Rattle.model.specs.Winding.{crossings, together, size}
-use Rattle.model.specs.Decoding.{growths, corrected}
+use Rattle.model.specs.Growth.{weighted}
+use Rattle.model.specs.Rounds.{allOdd}
+use Rattle.model.specs.Decoding.{growths, corrected, rounds, roundCorrected}
 use Rattle.model.specs.Verdict.{differs, judgedAt, judged}
 use Rattle.model.specs.Distance.{fewest}
 use Rattle.model.specs.Torus.{leastSide, largestSide}
 use Rattle.model.specs.Refusals.{placeOf, Test, sized, sideRule, lengthRule, oddPartTest, decodeRefusal, verdictRefusal, distanceRefusal, torusRefusal}
 use Rattle.model.specs.Outcomes.{answer, keyOrNone, decodeAnswer, judgedOrNone, verdictAnswer, distanceOf, distanceAnswer, torusAnswer}
+use Rattle.model.specs.RoundsOutcomes.{roundsOrNone, roundsAnswer}
 use Rattle.model.specs.Text.{Read, complete, refused, textOf, readText}
 use Rattle.model.specs.TextOutcomes.{Buffers, textLimit, readRefusal, readOutcome, counts, writeRefusal, writeAnswer}
-use Rattle.model.specs.Packing.{packedDecoded, packedVerdict, packedDistance, packedBuilt, packedReading, packedWritten, unpackedDecoded, verdictWith, unpackedVerdict, distanceWith, unpackedDistance, unpackedBuilt, unpackedReading, unpackedWritten}
+use Rattle.model.specs.Packing.{packedDecoded, packedRounds, packedVerdict, packedDistance, packedBuilt, packedReading, packedWritten, unpackedDecoded, unpackedRounds, verdictWith, unpackedVerdict, distanceWith, unpackedDistance, unpackedBuilt, unpackedReading, unpackedWritten}
 use Rattle.model.proofs.Packing.{unpacked-values, unpacked-refusal}
 use Rattle.model.proofs.Places.{PlaceBelow, answer-holds}
-use Rattle.theory.proofs.AnswerBounds.{growths-bound, size-bound, differs-bound, crossings-bound, fewest-bound}
+use Rattle.theory.proofs.AnswerBounds.{count-limit, size-bound, differs-bound, crossings-bound, fewest-bound}
 use Rattle.theory.proofs.ReadBounds.{LineBelow, line-below}
 use Rattle.theory.proofs.RoundTrip.{written-read}
 use Rattle.model.proofs.Xor.{and-right}
@@ -60,7 +64,7 @@ decode-key : (X : Sheet) → Valid (X .board) → unpackedDecoded (packedDecoded
 unfolding unpackedDecoded
 decode-key X v =
     unpacked-values decoded.Refused decoded.Key (growths X) (size (X .board) (corrected X))
-    (omega (arith, growths-bound X, v .inside .edge-limit))
+    (omega (arith, count-limit weighted X, v .inside .edge-limit))
     (omega (arith, size-bound (X .board) (corrected X), v .inside .edge-limit))
 
 pub decode-returned : (X : Sheet) (support correction : List ℕ) →
@@ -71,6 +75,29 @@ decode-returned X support correction =
     (λ p.
     let v = decode-passes X support correction p .sheet .board in
     back packedDecoded unpackedDecoded (oddPartTest X) decode-refusal (roomy (odd-small X (v .inside .vertex-limit))) (λ q. decode-key X v))
+
+-- Decoding in rounds: rounds in the place of growths
+
+rounds-refusal : (n : Refusal) → placeOf n < 2 ^ 56 → unpackedRounds (packedRounds (inRounds.Refused n)) ≡ inRounds.Refused n
+unfolding unpackedRounds
+rounds-refusal n h = unpacked-refusal inRounds.Refused inRounds.RoundsKey n h
+
+rounds-key : (X : Sheet) → Valid (X .board) → unpackedRounds (packedRounds (inRounds.RoundsKey (rounds X) (size (X .board) (roundCorrected X))))
+    ≡ inRounds.RoundsKey (rounds X) (size (X .board) (roundCorrected X))
+unfolding unpackedRounds
+rounds-key X v =
+    unpacked-values inRounds.Refused inRounds.RoundsKey (rounds X) (size (X .board) (roundCorrected X))
+    (omega (arith, count-limit allOdd X, v .inside .edge-limit))
+    (omega (arith, size-bound (X .board) (roundCorrected X), v .inside .edge-limit))
+
+pub rounds-returned : (X : Sheet) (support correction : List ℕ) →
+    unpackedRounds (packedRounds (roundsAnswer X support correction)) ≡ roundsAnswer X support correction
+unfolding roundsAnswer roundsOrNone
+rounds-returned X support correction =
+    back packedRounds unpackedRounds (decodeRefusal X support correction) rounds-refusal (roomy (decode-small X support correction))
+    (λ p.
+    let v = decode-passes X support correction p .sheet .board in
+    back packedRounds unpackedRounds (oddPartTest X) rounds-refusal (roomy (odd-small X (v .inside .vertex-limit))) (λ q. rounds-key X v))
 
 -- The verdict: off with a vertex, same, or wound with 1 to 3
 

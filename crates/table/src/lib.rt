@@ -1,6 +1,6 @@
 // The static library: the calls of the table under plain C names, each answering one packed number. Of each, `number` says which number,
-// and `outcome` that what a caller takes from it is the call's answer, with the final contents of every buffer; of decoding and of the
-// verdict, `sound` says what may be relied on, of the same answer.
+// and `outcome` that what a caller takes from it is the call's answer, with the final contents of every buffer; of decoding, by growths and in
+// rounds, and of the verdict, `sound` says what may be relied on, of the same answer.
 mod packing;
 
 use crate::packing::pack;
@@ -9,15 +9,17 @@ use model::answers::Built;
 use model::answers::Decoded;
 use model::answers::Distance;
 use model::answers::Reading;
+use model::answers::RoundsDecoded;
 use model::answers::Verdict;
 use model::answers::Written;
 ghost use mathlib.Core.Path.{_≡_};
 ghost use Rattle.model.specs.Lent.{before, after, boardLent, sheetLent};
 ghost use Rattle.model.specs.Outcomes.{decodeAnswer, Decodes, DecodesSoundly, verdictAnswer, Judges, JudgesSoundly};
 ghost use Rattle.model.specs.Outcomes.{distanceAnswer, Measures, torusAnswer, Builds};
+ghost use Rattle.model.specs.RoundsOutcomes.{roundsAnswer, DecodesInRounds, RoundsSoundly};
 ghost use Rattle.model.specs.TextOutcomes.{buffersOf, counts, readOutcome, Reads, writeAnswer, Writes};
-ghost use Rattle.model.specs.Packing.{packedDecoded, packedVerdict, packedDistance, packedBuilt, packedReading, packedWritten};
-ghost use Rattle.model.specs.Packing.{unpackedDecoded, unpackedVerdict, unpackedDistance, unpackedBuilt, unpackedReading, unpackedWritten};
+ghost use Rattle.model.specs.Packing.{packedDecoded, packedRounds, packedVerdict, packedDistance, packedBuilt, packedReading, packedWritten};
+ghost use Rattle.model.specs.Packing.{unpackedDecoded, unpackedRounds, unpackedVerdict, unpackedDistance, unpackedBuilt, unpackedReading, unpackedWritten};
 
 // The key of a sheet: growths and correction edges, with the support and correction bytes filled.
 #[no_mangle]
@@ -43,6 +45,33 @@ pub extern "C" fn surface_decode(
     match decoder::decode(vertices, ends, marks, syndrome, loss, support, correction) {
         Decoded::Key { growths, edges } => pack(growths, edges),
         Decoded::Refused(n) => pack_refusal(n),
+    }
+}
+
+// The key of a sheet by rounds: rounds and correction edges, with the support and correction bytes filled.
+#[no_mangle]
+pub extern "C" fn surface_decode_rounds(
+    vertices: usize,
+    ends: &[u16],
+    marks: &[u8],
+    syndrome: &[u8],
+    loss: &[u8],
+    support: &mut [u8],
+    correction: &mut [u8],
+) -> u64
+    ensures number { λ r.
+        ⌜ r ≡ packedRounds
+        (roundsAnswer (sheetLent vertices ends marks syndrome loss) (before support) (before correction)) ⌝ }
+    ensures outcome { λ r.
+        ⌜ DecodesInRounds (sheetLent vertices ends marks syndrome loss) (before support) (before correction)
+        (unpackedRounds r) (after support) (after correction) ⌝ }
+    ensures sound { λ r.
+        ⌜ RoundsSoundly (sheetLent vertices ends marks syndrome loss) (before support) (before correction)
+        (unpackedRounds r) (after support) (after correction) ⌝ }
+{
+    match decoder::decode_rounds(vertices, ends, marks, syndrome, loss, support, correction) {
+        RoundsDecoded::RoundsKey { rounds, edges } => pack(rounds, edges),
+        RoundsDecoded::Refused(n) => pack_refusal(n),
     }
 }
 

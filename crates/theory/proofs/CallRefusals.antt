@@ -1,6 +1,6 @@
 -- Document 01, "Numbers and places", of each call: of all refusals that apply it gives the one with the smallest number, and of those with
 -- that number the one with the smallest place. The numbers of the rules rise in all calls but the torus builder, whose lengths come after
--- its side. Outside the lists stand 10, which decoding and the verdict give only where nothing of their lists applies, and 13, which the
+-- its side. Outside the lists stand 10, which decoding, in rounds too, and the verdict give only where nothing of their lists applies, and 13, which the
 -- reader gives alike. Assumes nothing.
 use Prim.Native.Nat.{ℕ, _*_, _≤_}
 use mathlib.Core.Path.{_≡_, refl, ap, _∙_}
@@ -15,6 +15,7 @@ use lib.Dec.{leb}
 use Rattle.model.specs.declared.refusal.Refusal.{Refusal}
 use Rattle.model.specs.declared.refusal.Refusal.the-variants.{BufferLength, TorusSide, MalformedLine}
 use Rattle.model.specs.declared.answers.Decoded.the-variants as decoded
+use Rattle.model.specs.declared.answers.RoundsDecoded.the-variants as inRounds
 use Rattle.model.specs.declared.answers.Verdict.the-variants as verdict
 use Rattle.model.specs.declared.answers.Distance.the-variants as distance
 use Rattle.model.specs.declared.answers.Built.the-variants as built
@@ -24,6 +25,7 @@ use Rattle.model.specs.Board.{Board, Sheet}
 use Rattle.model.specs.Torus.{leastSide, largestSide}
 use Rattle.model.specs.Refusals.{Test, numberOf, noneAt, sized, lengthRule, sideRule, decodeRules, decodeRefusal, verdictRules, verdictRefusal, distanceRules, distanceRefusal, torusRules, torusRefusal}
 use Rattle.model.specs.Outcomes.{answer, keyOrNone, decodeAnswer, judgedOrNone, verdictAnswer, distanceOf, distanceAnswer, torusAnswer}
+use Rattle.model.specs.RoundsOutcomes.{roundsOrNone, roundsAnswer}
 use Rattle.model.specs.Distance.{fewest}
 use Rattle.model.specs.Text.{refused, textOf, readText}
 use Rattle.model.specs.TextOutcomes.{Buffers, readRules, readRefusal, readOutcome, counts, writeRules, writeRefusal, writeAnswer}
@@ -52,6 +54,18 @@ pub decode-last : (X : Sheet) (support correction : List ℕ) (v : ℕ) → deco
 unfolding decodeAnswer decodeRefusal
 decode-last X support correction v =
     other-number (decode-numbers X support correction) (noneAt v) refl decoded.Refused (keyOrNone X) (λ q e. cc)
+
+-- In rounds decoding is tested alike.
+pub rounds-answers : (X : Sheet) (support correction : List ℕ) (q : Refusal) → Applies (decodeRules X support correction) q
+    → AnswersSmallest (decodeRules X support correction) inRounds.Refused (roundsAnswer X support correction)
+unfolding roundsAnswer decodeRefusal
+rounds-answers X support correction = answers-smallest (decode-numbers X support correction) refl inRounds.Refused (roundsOrNone X)
+
+pub rounds-last : (X : Sheet) (support correction : List ℕ) (v : ℕ) → roundsAnswer X support correction ≡ inRounds.Refused (noneAt v)
+    → NoneApplies (decodeRules X support correction)
+unfolding roundsAnswer decodeRefusal
+rounds-last X support correction v =
+    other-number (decode-numbers X support correction) (noneAt v) refl inRounds.Refused (roundsOrNone X) (λ q e. cc)
 
 -- The verdict
 

@@ -1,21 +1,22 @@
--- What decoding answers once its tests are passed, and what it writes where there is a correction: it lies in the forest of the full edges,
--- and has the syndrome put.
+-- What decoding answers once its tests are passed, and what it writes where there is a correction, be it by weighted growth or in rounds: it
+-- lies in the forest of the full edges, and has the syndrome put.
 -- Assumes nothing.
 use Prim.Native.Nat.{ℕ}
 use mathlib.Core.Path.{_≡_}
 use mathlib.Core.List.{List}
 use mathlib.Core.Option.{none, some}
+use Rattle.model.specs.declared.refusal.Refusal.{Refusal}
 use Rattle.model.specs.declared.answers.Decoded.the-variants.{Key, Refused}
-use Rattle.model.specs.Sums.{ones}
-use Rattle.model.specs.Board.{Inside, Sheet}
+use Rattle.model.specs.Sums.{Set, ones}
+use Rattle.model.specs.Board.{Board, Inside, Sheet}
 use Rattle.model.specs.Syndrome.{HasSyndrome}
 use Rattle.model.specs.Winding.{size}
-use Rattle.model.specs.Growth.{full, clusters}
+use Rattle.model.specs.Growth.{full, clusters, Policy}
 use Rattle.model.specs.Forest.{forest}
-use Rattle.model.specs.Decoding.{smallestOdd, growths, supports, corrected}
-use Rattle.model.specs.Refusals.{noneAt, decodeRefusal}
-use Rattle.model.specs.Outcomes.{keyOrNone, decodeAnswer}
-use Rattle.theory.proofs.GrowthRun.{Reached, NoneOdd, grown-ends}
+use Rattle.model.specs.Decoding.{smallestOdd, grownBy, peeled, growths, corrected}
+use Rattle.model.specs.Refusals.{noneAt, oddPartTest, decodeRefusal}
+use Rattle.model.specs.Outcomes.{answer, keyOrNone, decodeAnswer}
+use Rattle.theory.proofs.GrowthRun.{NoneOdd, Feeds, Reached, grown-ends}
 use Rattle.theory.proofs.Forests.{Within, forest-inside}
 use Rattle.theory.proofs.Corrections.{correction-in-forest, correction-has-syndrome}
 use Rattle.theory.proofs.GrowthBound.{growth-ends}
@@ -27,36 +28,48 @@ pub passed-answer : (X : Sheet) (support correction : List ℕ) → decodeRefusa
 unfolding decodeAnswer
 passed-answer X support correction passed = rw passed
 
+pub odd-answer : {A : Type 0} (refused : Refusal → A) (key : A) (X : Sheet) (v : ℕ) → smallestOdd (X .board) (ones (X .syndrome)) ≡ some v
+    → answer (oddPartTest X) refused key ≡ refused (noneAt v)
+odd-answer refused key X v p = rw p
+
+pub even-answer : {A : Type 0} (refused : Refusal → A) (key : A) (X : Sheet) → smallestOdd (X .board) (ones (X .syndrome)) ≡ none
+    → answer (oddPartTest X) refused key ≡ key
+even-answer refused key X p = rw p
+
 pub none-answer : (X : Sheet) (v : ℕ) → smallestOdd (X .board) (ones (X .syndrome)) ≡ some v → keyOrNone X ≡ Refused (noneAt v)
 unfolding keyOrNone
-none-answer X v p = rw p
+none-answer X v p = odd-answer Refused (Key (growths X) (size (X .board) (corrected X))) X v p
 
 pub key-answer : (X : Sheet) → smallestOdd (X .board) (ones (X .syndrome)) ≡ none
     → keyOrNone X ≡ Key (growths X) (size (X .board) (corrected X))
 unfolding keyOrNone
-key-answer X p = rw p
+key-answer X p = even-answer Refused (Key (growths X) (size (X .board) (corrected X))) X p
 
--- The correction
+-- The correction, by any policy
 
--- the key is reached by growths of odd clusters
-pub key-reached : (X : Sheet) → Reached (X .board) (ones (X .syndrome)) (ones (X .loss)) (supports X) (growths X)
-unfolding supports growths
-key-reached X = grown-ends (X .board) (ones (X .syndrome)) (ones (X .loss)) .reached
+module _ (policy : Board → Set → Policy) (X : Sheet) where
+  abbrev lit : Set
+  lit = ones (X .syndrome)
 
-pub corrected-in-forest : (X : Sheet) → Within (X .board) (corrected X) (forest (X .board) (full (supports X)))
-unfolding corrected
-corrected-in-forest X = correction-in-forest (X .board) (full (supports X)) (ones (X .syndrome))
+  -- the key is reached by growths that the policy names
+  pub key-reached : Reached (X .board) (policy (X .board) lit) (ones (X .loss)) (grownBy policy X .support) (grownBy policy X .count)
+  unfolding grownBy
+  key-reached = grown-ends (X .board) (policy (X .board) lit) (ones (X .loss)) .reached
 
-pub corrected-full : (X : Sheet) → Within (X .board) (corrected X) (full (supports X))
-corrected-full X = record { holds = λ e h p. forest-inside (X .board) (full (supports X)) e (corrected-in-forest X .holds e h p) }
+  pub corrected-in-forest : Within (X .board) (peeled X (grownBy policy X)) (forest (X .board) (full (grownBy policy X .support)))
+  unfolding peeled
+  corrected-in-forest = correction-in-forest (X .board) (full (grownBy policy X .support)) lit
 
--- no cluster is odd in the end
-pub key-even : (X : Sheet) → Inside (X .board) → smallestOdd (X .board) (ones (X .syndrome)) ≡ none
-    → NoneOdd (X .board) (clusters (X .board) (supports X)) (ones (X .syndrome))
-unfolding supports
-key-even X r p = growth-ends (X .board) r (ones (X .syndrome)) (ones (X .loss)) p
+  pub corrected-full : Within (X .board) (peeled X (grownBy policy X)) (full (grownBy policy X .support))
+  corrected-full =
+      record { holds = λ e h p. forest-inside (X .board) (full (grownBy policy X .support)) e (corrected-in-forest .holds e h p) }
 
-pub corrected-has-syndrome : (X : Sheet) → Inside (X .board) → smallestOdd (X .board) (ones (X .syndrome)) ≡ none
-    → HasSyndrome (X .board) (corrected X) (ones (X .syndrome))
-unfolding corrected clusters
-corrected-has-syndrome X r p = correction-has-syndrome (X .board) r (full (supports X)) (ones (X .syndrome)) (key-even X r p)
+  module _ (r : Inside (X .board)) (f : Feeds (X .board) lit (policy (X .board) lit)) (p : smallestOdd (X .board) lit ≡ none) where
+    -- no cluster is odd in the end
+    pub key-even : NoneOdd (X .board) (clusters (X .board) (grownBy policy X .support)) lit
+    unfolding grownBy
+    key-even = growth-ends (X .board) r lit (ones (X .loss)) (policy (X .board) lit) f p
+
+    pub corrected-has-syndrome : HasSyndrome (X .board) (peeled X (grownBy policy X)) lit
+    unfolding peeled clusters
+    corrected-has-syndrome = correction-has-syndrome (X .board) r (full (grownBy policy X .support)) lit key-even

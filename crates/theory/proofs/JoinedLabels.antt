@@ -15,7 +15,7 @@ use Rattle.theory.proofs.Connected.{Connected, along, back, chain, Thro
 use Rattle.theory.proofs.Components.{connected-part, part-connected}
 
 -- two tests that imply each other are one
-same-test : (a b : Bool) → (a ≡ true → b ≡ true) → (b ≡ true → a ≡ true) → a ≡ b
+pub same-test : (a b : Bool) → (a ≡ true → b ≡ true) → (b ≡ true → a ≡ true) → a ≡ b
 same-test true b to from = sym (to refl)
 same-test false true to from = absurd (false≢true (from refl))
 same-test false false to from = refl

@@ -1,5 +1,5 @@
 -- Document 02, K3: what may be relied on of a loop edge, whose two ends are one vertex. It adds nothing to any syndrome and is closed by
--- itself, is full or untouched at every step of the growth, and is in no forest and so in no correction; in t and s every edge counts,
+-- itself, is full or untouched at every step of the growth and of the rounds, and is in no forest and so in no correction; in t and s every edge counts,
 -- loop edges too; and where one is marked, the distance is 1.
 -- Assumes nothing.
 use Prim.Native.Nat.{ℕ, zero, suc, _+_, _*_, _/_, _%_, _≤_, _<_, min}
@@ -9,7 +9,7 @@ use mathlib.Core.Bool.{Bool, true, false, cond, not, _&&_, and-false, and-true, 
 use mathlib.Core.List.{List}
 use mathlib.Core.Option.{some}
 use native.Mathlib.Omega.{arith}
-use borrow.Author.Tests.{eqb-true, eqb-false, eq-eqb, ne-eqb}
+use borrow.Author.Tests.{eq-eqb, ne-eqb}
 use lib.ListN.{getD}
 use lib.Dec.{eqb}
 use Rattle.model.specs.Sums.{Set, _⊕_, bit}
@@ -17,10 +17,10 @@ use Rattle.model.specs.Board.{Board, Sheet, Valid, LoopEdge, edges, firstEnd, s
 use Rattle.model.specs.Syndrome.{meets, syndrome}
 use Rattle.model.specs.Winding.{closed, crossings, winds, together, size}
 use Rattle.model.specs.Components.{label}
-use Rattle.model.specs.Growth.{clusters, grow}
+use Rattle.model.specs.Growth.{swell, Policy}
 use Rattle.model.specs.Forest.{takenUpTo, forest}
 use Rattle.model.specs.Correction.{without, correction}
-use Rattle.model.specs.Decoding.{supports, corrected}
+use Rattle.model.specs.Decoding.{grownBy, peeled}
 use Rattle.model.specs.Demand3.{lostEdges, keptEdges}
 use Rattle.model.specs.Distance.{fewest}
 use Rattle.model.proofs.Bits.{byte-bit}
@@ -30,8 +30,8 @@ use Rattle.model.proofs.CountLaws.{count-before, count-more}
 use Rattle.theory.proofs.Totals.{count-at}
 use Rattle.theory.proofs.Syndromes.{syndrome-together, syndrome-edge}
 use Rattle.theory.proofs.CrossedLines.{Line, lineA, lineB, crosses, crossesOddly, closed-true, unmarked-unwound}
-use Rattle.theory.proofs.GrowthRun.{OddPart, Reached, reached-holds}
-use Rattle.theory.proofs.Supports.{start-at, grow-at}
+use Rattle.theory.proofs.GrowthRun.{Reached, reached-holds}
+use Rattle.theory.proofs.Supports.{start-at, swell-at}
 use Rattle.theory.proofs.Decodings.{key-reached}
 use Rattle.theory.proofs.Distances.{least-fewest}
 
@@ -116,31 +116,27 @@ module _ (B : Board) (e : ℕ) (h : e < edges B) (same : LoopEdge B e) where
   unfolding winds
   loop-winds w = rw (loop-closed, only-crossings B e h (w .mark-in-range e h))
 
-  -- Theorem: one growth of its cluster gives it two half-edges, so that it is full; one of another cluster gives it none.
-  pub loop-gains : (s l : List ℕ) → getD (grow B s l (label l (firstEnd B e))) e 0 ≡ 2
-  loop-gains s l =
-      grow-at B s l (label l (firstEnd B e)) e h
-      ∙ rw (← same, eq-eqb (label l (firstEnd B e)) (label l (firstEnd B e)) refl) (omega arith)
+  -- Theorem: where its vertex grows it gains two half-edges, so that it is full; where its vertex does not grow it gains none.
+  pub loop-gains : (s : List ℕ) (R : Set) → R (firstEnd B e) ≡ true → getD (swell B s R) e 0 ≡ 2
+  loop-gains s R in-it = swell-at B s R e h ∙ rw (← same, in-it) (omega arith)
 
-  pub loop-stays : (s l : List ℕ) (a : ℕ) → label l (firstEnd B e) ≢ a → getD (grow B s l a) e 0 ≡ min 2 (getD s e 0)
-  loop-stays s l a out =
-      grow-at B s l a e h ∙ rw (← same, ne-eqb (label l (firstEnd B e)) a out) (omega arith)
+  pub loop-stays : (s : List ℕ) (R : Set) → R (firstEnd B e) ≡ false → getD (swell B s R) e 0 ≡ min 2 (getD s e 0)
+  loop-stays s R out = swell-at B s R e h ∙ rw (← same, out) (omega arith)
 
-  -- Theorem: at every step of the growth it has no half-edge or both; so too in the end.
-  pub loop-whole : (S lost : Set) {s : List ℕ} {g : ℕ} → Reached B S lost s g → Whole (getD s e 0)
-  loop-whole S lost = reached-holds B S lost (λ s g. Whole (getD s e 0)) (rw (start-at B lost e h) (first (lost e))) next
+  -- Theorem: at every step of the growth, and of the rounds, it has no half-edge or both; so too in the end.
+  pub loop-whole : (p : Policy) (lost : Set) {s : List ℕ} {g : ℕ} → Reached B p lost s g → Whole (getD s e 0)
+  loop-whole p lost =
+      reached-holds B p lost (λ s g. Whole (getD s e 0)) (rw (start-at B lost e h) (first (lost e)))
+      (λ s g R q w. next s R (R (firstEnd B e)) refl w)
     where
       first : (t : Bool) → Whole (cond t 2 0)
       first true = inr refl
       first false = inl refl
 
-      next : (s : List ℕ) (g a : ℕ) → OddPart B (clusters B s) S a → Whole (getD s e 0) → Whole (getD (grow B s (clusters B s) a) e 0)
-      next s g a o w = go (eqb (label (clusters B s) (firstEnd B e)) a) refl w
-        where
-          go : (t : Bool) → eqb (label (clusters B s) (firstEnd B e)) a ≡ t → Whole (getD s e 0) → Whole (getD (grow B s (clusters B s) a) e 0)
-          go true q w = inr (ap (λ c. getD (grow B s (clusters B s) c) e 0) (sym (eqb-true _ _ q)) ∙ loop-gains s (clusters B s))
-          go false q (inl z) = inl (omega (arith, loop-stays s (clusters B s) a (eqb-false _ _ q)))
-          go false q (inr z) = inr (omega (arith, loop-stays s (clusters B s) a (eqb-false _ _ q)))
+      next : (s : List ℕ) (R : Set) (t : Bool) → R (firstEnd B e) ≡ t → Whole (getD s e 0) → Whole (getD (swell B s R) e 0)
+      next s R true q w = inr (loop-gains s R q)
+      next s R false q (inl z) = inl (omega (arith, loop-stays s R q))
+      next s R false q (inr z) = inr (omega (arith, loop-stays s R q))
 
   -- Theorem: it is in no forest, and so in no correction.
   pub loop-untaken : (F : Set) → forest B F e ≡ false
@@ -161,11 +157,11 @@ module _ (B : Board) (e : ℕ) (h : e < edges B) (same : LoopEdge B e) where
         least = winding-some B;
       })
 
--- So it is in a key, whose correction and supports decoding writes.
-module _ (X : Sheet) (e : ℕ) (h : e < edges (X .board)) (same : LoopEdge (X .board) e) where
-  pub key-loop-whole : Whole (getD (supports X) e 0)
-  key-loop-whole = loop-whole (X .board) e h same _ _ (key-reached X)
+-- So it is in a key, whose correction and supports decoding writes, by weighted growth or in rounds.
+module _ (policy : Board → Set → Policy) (X : Sheet) (e : ℕ) (h : e < edges (X .board)) (same : LoopEdge (X .board) e) where
+  pub key-loop-whole : Whole (getD (grownBy policy X .support) e 0)
+  key-loop-whole = loop-whole (X .board) e h same _ _ (key-reached policy X)
 
-  pub key-loop-uncorrected : corrected X e ≡ false
-  unfolding corrected
+  pub key-loop-uncorrected : peeled X (grownBy policy X) e ≡ false
+  unfolding peeled
   key-loop-uncorrected = loop-uncorrected (X .board) e h same _ _

@@ -9,11 +9,11 @@ use lib.ListN.{length, replicate, length-replicate}
 use Rattle.model.specs.Sums.{Set, ones, bytes}
 use Rattle.model.specs.Board.{Board, boardOf, Sheet, sheetOf, EndsWithin, Inside, unmarked, firstEnd}
 use Rattle.model.specs.Components.{labelsUpTo, labels, label}
-use Rattle.model.specs.Growth.{start, full, clusters, odd, exposed, boundary, better, choiceUpTo, choice, grow, chosen, growFrom, grown}
+use Rattle.model.specs.Growth.{start, full, clusters, odd, exposed, boundary, better, choiceUpTo, choice, swell, Policy, chosen, weighted, growFrom, grown}
+use Rattle.model.specs.Rounds.{allOdd}
 use Rattle.model.specs.Forest.{takenUpTo, forest, parted}
 use Rattle.model.specs.Correction.{without, oddSide, correction}
-use Rattle.model.specs.Decoding.{parts, inOddPart, smallestOdd, growths, supports, corrected}
-use Rattle.model.specs.Outcomes.{keyOrNone}
+use Rattle.model.specs.Decoding.{parts, inOddPart, smallestOdd, grownBy, peeled}
 use Rattle.model.proofs.SumLaws.{first-cong}
 
 module _ (n : ℕ) (ends marks marks′ : List ℕ) (same : length marks ≡ length marks′) where
@@ -57,27 +57,35 @@ module _ (n : ℕ) (ends marks marks′ : List ℕ) (same : length marks ≡ len
   unfolding choice
   choice-aside s l S = choice-stage s l S n
 
-  grow-aside : (s l : List ℕ) (a : ℕ) → grow B s l a ≡ grow C s l a
-  unfolding grow
-  grow-aside s l a = rw same
+  pub weighted-aside : (S : Set) (s : List ℕ) → weighted B S s ≡ weighted C S s
+  unfolding weighted
+  weighted-aside S s = rw (clusters-aside s, choice-aside s (clusters C s) S)
 
-  run-aside : (S : Set) (k : ℕ) (s : List ℕ) (g : ℕ) → growFrom B S k s g ≡ growFrom C S k s g
+  pub rounds-aside : (S : Set) (s : List ℕ) → allOdd B S s ≡ allOdd C S s
+  unfolding allOdd odd
+  rounds-aside S s = rw (clusters-aside s)
+
+  swell-aside : (s : List ℕ) (R : Set) → swell B s R ≡ swell C s R
+  unfolding swell
+  swell-aside s R = rw same
+
+  run-aside : (p q : Policy) → ((s : List ℕ) → p s ≡ q s) → (k : ℕ) (s : List ℕ) (g : ℕ) → growFrom B p k s g ≡ growFrom C q k s g
   unfolding growFrom
-  run-aside S zero s g = refl
-  run-aside S (suc k) s g = rw (clusters-aside s, choice-aside s (clusters C s) S) (go (λ a. run-aside S k (grow C s (clusters C s) a) (suc g)) (choice C s (clusters C s) S))
+  run-aside p q alike zero s g = refl
+  run-aside p q alike (suc k) s g = rw (alike s) (go (λ R. run-aside p q alike k (swell C s R) (suc g)) (q s))
     where
-      go : ((a : ℕ) → growFrom B S k (grow C s (clusters C s) a) (suc g) ≡ growFrom C S k (grow C s (clusters C s) a) (suc g)) → (o : Option ℕ)
-          → chosen o (record { support = s; growths = g }) (λ a. growFrom B S k (grow B s (clusters C s) a) (suc g)) ≡ chosen o (record { support = s; growths = g }) (λ a. growFrom C S k (grow C s (clusters C s) a) (suc g))
+      go : ((R : Set) → growFrom B p k (swell C s R) (suc g) ≡ growFrom C q k (swell C s R) (suc g)) → (o : Option Set)
+          → chosen o (record { support = s; count = g }) (λ R. growFrom B p k (swell B s R) (suc g)) ≡ chosen o (record { support = s; count = g }) (λ R. growFrom C q k (swell C s R) (suc g))
       go later none = refl
-      go later (some a) = rw (grow-aside s (clusters C s) a) (later a)
+      go later (some R) = rw (swell-aside s R) (later R)
 
   start-aside : (lost : Set) → start B lost ≡ start C lost
   unfolding start
   start-aside lost = rw same
 
-  pub grown-aside : (S lost : Set) → grown B S lost ≡ grown C S lost
+  grown-aside : (p q : Policy) → ((s : List ℕ) → p s ≡ q s) → (lost : Set) → grown B p lost ≡ grown C q lost
   unfolding grown
-  grown-aside S lost = rw (same, start-aside lost) (run-aside S (2 * length marks′) (start C lost) 0)
+  grown-aside p q alike lost = rw (same, start-aside lost) (run-aside p q alike (2 * length marks′) (start C lost) 0)
 
   pub smallest-aside : (S : Set) → smallestOdd B S ≡ smallestOdd C S
   unfolding smallestOdd inOddPart parts
@@ -105,29 +113,21 @@ module _ (n : ℕ) (ends marks marks′ : List ℕ) (same : length marks ≡ len
       rw (same, forest-aside F)
       (ap (λ t. forest C F e && t) (side-aside (without (ones (bytes (length marks′) (forest C F))) e) S (firstEnd C e))))
 
-  -- so a key looks at no marks
-  module _ (syndrome loss : List ℕ) where
+  -- so a key looks at no marks, if the policy doesn't
+  module _ (syndrome loss : List ℕ) (policy : Board → Set → Policy) (alike : (s : List ℕ) → policy B (ones syndrome) s ≡ policy C (ones syndrome) s) where
     abbrev X : Sheet
     X = sheetOf B syndrome loss
 
     abbrev Y : Sheet
     Y = sheetOf C syndrome loss
 
-    pub supports-aside : supports X ≡ supports Y
-    unfolding supports
-    supports-aside = ap (λ g. g .support) (grown-aside (ones syndrome) (ones loss))
+    pub key-aside : grownBy policy X ≡ grownBy policy Y
+    unfolding grownBy
+    key-aside = grown-aside (policy B (ones syndrome)) (policy C (ones syndrome)) alike (ones loss)
 
-    growths-aside : growths X ≡ growths Y
-    unfolding growths
-    growths-aside = ap (λ g. g .growths) (grown-aside (ones syndrome) (ones loss))
-
-    pub corrected-aside : corrected X ≡ corrected Y
-    unfolding corrected
-    corrected-aside = rw supports-aside (correction-aside (full (supports Y)) (ones syndrome))
-
-    pub key-aside : keyOrNone X ≡ keyOrNone Y
-    unfolding keyOrNone
-    key-aside = rw (smallest-aside (ones syndrome), growths-aside, corrected-aside, same)
+    pub peeled-aside : peeled X (grownBy policy X) ≡ peeled Y (grownBy policy Y)
+    unfolding peeled
+    peeled-aside = rw key-aside (correction-aside (full (grownBy policy Y .support)) (ones syndrome))
 
 -- The board whose marks are all 0
 

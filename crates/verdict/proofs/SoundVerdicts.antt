@@ -11,12 +11,14 @@ use Rattle.model.specs.Board.{Board, Sheet, Inside}
 use Rattle.model.specs.Syndrome.{HasSyndrome}
 use Rattle.model.specs.Winding.{winds, together}
 use Rattle.model.specs.Decoding.{smallestOdd, corrected}
+use Rattle.model.specs.Growth.{weighted}
 use Rattle.model.specs.Demand3.{Unmet, EveryLoopAbove, lostEdges, keptEdges}
 use Rattle.model.specs.Verdict.{judged, SoundVerdict}
 use Rattle.model.specs.Refusals.{noneAt, verdictRefusal}
 use Rattle.model.specs.Outcomes.{judgedOrNone, Judges, JudgesSoundly}
 use Rattle.model.proofs.Contradiction.{zero-one}
 use Rattle.theory.proofs.NoCorrection.{no-correction-unmet}
+use Rattle.theory.proofs.WeightedGrowth.{weighted-feeds}
 use Rattle.theory.proofs.Decodings.{key-reached, corrected-full, corrected-has-syndrome}
 use Rattle.theory.proofs.NotWinding.{not-winding}
 use Rattle.theory.proofs.VerdictGround.{judged-same, judged-wound, unwound-same, judged-answers}
@@ -69,10 +71,10 @@ module _ (X : Sheet) (handed : List ℕ) (r : Verdict) (j : Judges X handed r) w
           sound-none B S (ones (X .loss)) (corrected X) (ones handed) v r (result ∙ none-verdict X handed v p)
           (no-correction-unmet B within S v p)
       go none p =
-          let has = corrected-has-syndrome X within p in
+          let has = corrected-has-syndrome weighted X within (weighted-feeds B S) p in
           sound-judged B S (ones (X .loss)) (corrected X) (ones handed) r (result ∙ judged-verdict X handed p) has
           (λ hands above.
-          not-winding B within S (ones (X .loss)) (ones handed) (corrected X) hands has (key-reached X) (corrected-full X) above)
+          not-winding B within S (ones (X .loss)) (ones handed) (corrected X) hands has (key-reached weighted X) (corrected-full weighted X) above)
 
   -- whatever meets the verdict's outcome is what a marker may rely on
   pub judges-sound : JudgesSoundly X handed r

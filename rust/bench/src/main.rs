@@ -1,13 +1,14 @@
-//! Prints the library's times beside those of a plain program with the same steps.
+//! Prints the library's times beside those of a plain program with the same steps, and the library's
+//! times of decoding in rounds.
 //!
-//! Both are built for release and run on one machine, on the same seeded sheets and into the same
+//! All are built for release and run on one machine, on the same seeded sheets and into the same
 //! buffers, which are not cleared in between. Each time is the best of five.
 
 use std::hint::black_box;
 use std::time::{Duration, Instant};
 
 use reference::torus::torus;
-use reference::{Random, Sheet, text};
+use reference::{Random, RoundsKey, Sheet, decode_rounds, text};
 use table_bench::plain::Plain;
 
 const SEED: u64 = 301;
@@ -21,7 +22,7 @@ fn main() {
     println!(
         "decode, {SHEETS} seeded sheets on a torus, best of {RUNS} runs, microseconds for each sheet"
     );
-    println!("side  flips  growths      table      plain  plain/table");
+    println!("side  flips  growths      table      plain  plain/table     rounds");
     for side in [8, 16, 32] {
         for rate in RATES {
             decode_row(side, rate);
@@ -77,38 +78,49 @@ fn best(calls: usize, mut run: impl FnMut()) -> f64 {
 
 fn decode_row(side: usize, rate: usize) {
     let sheets = sheets(side, rate, SHEETS);
-    let edges = sheets[0].board.edges();
     let mut plain = Plain::default();
     let growths = same_keys(&sheets, &mut plain);
-    let (mut support, mut correction) = (vec![0; edges], vec![0; edges]);
-    let (mut table_times, mut plain_times) = (Vec::new(), Vec::new());
-    // By turns, so that what else the machine does falls on both.
-    for _ in 0..RUNS {
-        table_times.push(time(|| {
-            for sheet in &sheets {
-                let _ = black_box(table::decode(lent(sheet), &mut support, &mut correction));
-            }
-        }));
-        plain_times.push(time(|| {
-            for sheet in &sheets {
-                black_box(plain.decode(sheet, &mut support, &mut correction));
-            }
-        }));
-    }
-    let table_time = each(table_times.into_iter().min(), SHEETS);
-    let plain_time = each(plain_times.into_iter().min(), SHEETS);
-    let flips = rate * edges / 2048;
+    let [table_time, plain_time, rounds_time] = decode_times(&sheets, &mut plain);
+    let flips = rate * sheets[0].board.edges() / 2048;
     let growths = growths as f64 / SHEETS as f64;
     let ratio = plain_time / table_time;
     println!(
-        "{side:>4} {flips:>6} {growths:>8.1} {table_time:>10.1} {plain_time:>10.1} {ratio:>12.2}"
+        "{side:>4} {flips:>6} {growths:>8.1} {table_time:>10.1} {plain_time:>10.1} {ratio:>12.2} {rounds_time:>10.1}"
     );
 }
 
-/// Compares all keys of both programs, and returns the growths of all sheets.
+/// The times of the library, of the plain program and of the library in rounds, by turns, so that
+/// what else the machine does falls on all.
+fn decode_times(sheets: &[Sheet], plain: &mut Plain) -> [f64; 3] {
+    let edges = sheets[0].board.edges();
+    let (mut support, mut correction) = (vec![0; edges], vec![0; edges]);
+    let mut times = [const { Vec::new() }; 3];
+    for _ in 0..RUNS {
+        times[0].push(time(|| {
+            for sheet in sheets {
+                let _ = black_box(table::decode(lent(sheet), &mut support, &mut correction));
+            }
+        }));
+        times[1].push(time(|| {
+            for sheet in sheets {
+                black_box(plain.decode(sheet, &mut support, &mut correction));
+            }
+        }));
+        times[2].push(time(|| {
+            for sheet in sheets {
+                let _ = black_box(table::decode_rounds(lent(sheet), &mut support, &mut correction));
+            }
+        }));
+    }
+    times.map(|times| each(times.into_iter().min(), sheets.len()))
+}
+
+/// Compares all keys of both programs, and those in rounds with the reference's, and returns the
+/// growths of all sheets.
 fn same_keys(sheets: &[Sheet], plain: &mut Plain) -> usize {
     let mut total = 0;
     for sheet in sheets {
+        same_rounds(sheet);
         let edges = sheet.board.edges();
         let mut keys = [(vec![7; edges], vec![7; edges]), (vec![7; edges], vec![7; edges])];
         let [(support, correction), (plain_support, plain_correction)] = &mut keys;
@@ -121,6 +133,19 @@ fn same_keys(sheets: &[Sheet], plain: &mut Plain) -> usize {
         total += key.growths;
     }
     total
+}
+
+/// Compares the library's key in rounds with the reference's, which has no time of its own here.
+fn same_rounds(sheet: &Sheet) {
+    let edges = sheet.board.edges();
+    let (mut support, mut correction) = (vec![7; edges], vec![7; edges]);
+    let Ok(key) = table::decode_rounds(lent(sheet), &mut support, &mut correction) else {
+        panic!("refused in rounds: {sheet:?}");
+    };
+    let table::RoundsKey { rounds, edges } = key;
+    let key = RoundsKey { rounds, support, correction };
+    assert_eq!(key.edges(), edges, "{sheet:?}");
+    assert!(decode_rounds(sheet) == Ok(key), "{sheet:?}");
 }
 
 /// Times of decoding, the distance, reading and writing on the torus of a side.

@@ -28,3 +28,33 @@ pub fn boards(seed: u64, count: usize) -> Vec<(Board, Vec<u8>)> {
     }
     boards
 }
+
+/// Every board with so many edges and marks 0 and 1 on which each vertex has an edge, with every set
+/// of lost edges. The edges stand in any order, and vertices are numbered as they come in it: rounds
+/// don't look at a vertex's number.
+pub fn every_board(edges: usize) -> impl Iterator<Item = (Board, Vec<u8>)> {
+    every_list(edges).into_iter().flat_map(move |list| {
+        let vertices = list.iter().map(|&(_, b)| usize::from(b) + 1).max().unwrap_or(1);
+        (0..1_u32 << (2 * edges)).map(move |bits| {
+            let bit = |at: usize| (bits >> at & 1) as u8;
+            let marked = |edge: usize| (list[edge].0, list[edge].1, bit(edge));
+            let board = Board::new(vertices, &(0..edges).map(marked).collect::<Vec<_>>());
+            (board, (edges..2 * edges).map(bit).collect())
+        })
+    })
+}
+
+/// The lists of so many pairs of vertices, the smaller one first, in which no vertex comes before all
+/// smaller ones have come.
+fn every_list(edges: usize) -> Vec<Vec<(u16, u16)>> {
+    let Some(fewer) = edges.checked_sub(1) else { return vec![Vec::new()] };
+    let mut lists = Vec::new();
+    for list in every_list(fewer) {
+        let next = list.iter().map(|&(_, b)| b + 1).max().unwrap_or(0);
+        let old = (0..=next).flat_map(|b| (0..=b).map(move |a| (a, b)));
+        for pair in old.chain([(next, next + 1)]) {
+            lists.push([&list[..], &[pair]].concat());
+        }
+    }
+    lists
+}

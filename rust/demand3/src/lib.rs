@@ -4,10 +4,16 @@
 //! Otherwise its correction has it, and for every set E that has it, of which s edges are not lost,
 //! and t lost edges in all: growths are at most 2s, and where every winding loop has more than
 //! t + 2s edges, E and the correction together do not wind.
+//!
+//! What growing in rounds promises of every set E is held against it in the same way ([`rounds`]).
 
 pub mod boards;
 pub mod exhaustive;
+pub mod rounds;
+pub mod sets;
 pub mod wrong;
 
-pub use boards::boards;
-pub use exhaustive::{Part, Tally, Violation, hold};
+pub use boards::{boards, every_board};
+pub use exhaustive::{Tally, hold};
+pub use rounds::{RoundsTally, hold_rounds};
+pub use sets::{Part, Violation};

@@ -1,17 +1,21 @@
-//! Holds demand 3 against the plain decoder on seeded random boards, and prints what was done.
+//! Holds demand 3 against the plain decoder on seeded random boards, and what growing in rounds
+//! promises against the plain decoder in rounds; prints what was done.
 //!
-//! It fails where a part of the statement is broken, where a part had nothing to say, where no
-//! board shows that the bound cannot be one lower, and where a wrong decoder passes.
+//! It fails where a part of a statement is broken, where a part had nothing to say, where no board
+//! shows that the bound cannot be one lower, and where a wrong decoder passes.
 
 use std::process::ExitCode;
 
-use demand3::{Tally, boards, hold, wrong};
+use demand3::{RoundsTally, Tally, boards, every_board, hold, hold_rounds, wrong};
 use reference::board::{Board, Sheet, members, size, together};
 use reference::generators::ring;
-use reference::{decode, distance};
+use reference::{decode, decode_rounds, distance};
 
 const SEED: u64 = 20;
 const BOARDS: usize = 10_000;
+
+/// Every board with at most so many edges is gone through in rounds.
+const EDGES: usize = 4;
 
 fn main() -> ExitCode {
     match run() {
@@ -35,11 +39,16 @@ fn run() -> Result<(), String> {
         return Err("a part of the statement had nothing to say".to_string());
     }
     show_m3()?;
-    refute_wrong_decoders(&boards)
+    refute_wrong_decoders(&boards)?;
+    println!("in rounds, on the same boards");
+    hold_rounds_on(boards.iter().cloned())?;
+    println!("in rounds, on every board with at most {EDGES} edges and marks 0 and 1");
+    hold_rounds_on((0..=EDGES).flat_map(every_board))?;
+    refute_wrong_rounds(&boards)
 }
 
 fn print(tally: &Tally) {
-    let lines = [
+    print_lines(&[
         (tally.boards, "boards, each with its lost edges"),
         (tally.syndromes, "syndromes, all of each board"),
         (tally.unmet, "of them met by no set, and exactly these are answered 10"),
@@ -57,7 +66,10 @@ fn print(tally: &Tally) {
         ),
         (tally.one_short_unlost, "of them with nothing lost"),
         (tally.one_short_loop, "of them with a loop edge in E"),
-    ];
+    ]);
+}
+
+fn print_lines(lines: &[(usize, &str)]) {
     for (count, what) in lines {
         println!("{count:>9} {what}");
     }
@@ -93,5 +105,71 @@ fn refute_wrong_decoders(boards: &[(Board, Vec<u8>)]) -> Result<(), String> {
         }
         println!("wrong decoder found out, {name}: {part:?}");
     }
+    Ok(())
+}
+
+/// What rounds promise, and two things that they do not promise but that are never seen otherwise.
+fn hold_rounds_on(boards: impl Iterator<Item = (Board, Vec<u8>)>) -> Result<(), String> {
+    let mut tally = RoundsTally::default();
+    for (board, loss) in boards {
+        hold_rounds(&board, &loss, decode_rounds, &mut tally)
+            .map_err(|broken| format!("{broken:?}"))?;
+    }
+    print_rounds(&tally);
+    if !tally.has_seen_all() {
+        return Err("a part of what rounds promise had nothing to say".to_string());
+    }
+    if tally.above_s + tally.covered_wound > 0 {
+        return Err("rounds are above s, or a covered set winds".to_string());
+    }
+    Ok(())
+}
+
+fn print_rounds(tally: &RoundsTally) {
+    print_lines(&[
+        (tally.boards, "boards, each with its lost edges"),
+        (tally.unmet, "syndromes met by no set, and exactly these are answered 10"),
+        (
+            tally.sets,
+            "sets E: the correction has E's syndrome and lies in the full edges, rounds <= 2s",
+        ),
+        (tally.s_reached, "of them with rounds = s, s above 0"),
+        (tally.s_reached_lost_loop, "of these with a loop edge in E that is lost"),
+        (tally.above_s, "with rounds above s; not promised"),
+        (tally.covered, "with every winding loop above t + 2s edges, s above 0"),
+        (tally.covered_wound, "of these wind with the correction; not promised"),
+        (tally.one_short, "wind where every winding loop is above t + 2s - 1 edges"),
+    ]);
+}
+
+fn refute_wrong_rounds(boards: &[(Board, Vec<u8>)]) -> Result<(), String> {
+    for (name, decoder, part) in wrong::ROUNDS {
+        let mut ignored = RoundsTally::default();
+        let found = boards
+            .iter()
+            .filter_map(|(board, loss)| hold_rounds(board, loss, decoder, &mut ignored).err())
+            .find(|violation| violation.part == part);
+        if found.is_none() {
+            return Err(format!("a wrong decoder in rounds passes: {name}"));
+        }
+        println!("wrong decoder in rounds found out, {name}: {part:?}");
+    }
+    show_one_half(boards)
+}
+
+/// A wrong decoder that keeps the promise, and is found out by what is counted beside it.
+fn show_one_half(boards: &[(Board, Vec<u8>)]) -> Result<(), String> {
+    let mut tally = RoundsTally::default();
+    for (board, loss) in boards {
+        hold_rounds(board, loss, wrong::gains_one_half, &mut tally)
+            .map_err(|broken| format!("{broken:?}"))?;
+    }
+    let RoundsTally { above_s, covered_wound, .. } = tally;
+    if above_s == 0 || covered_wound == 0 {
+        return Err("one half-edge in a round passes".to_string());
+    }
+    println!(
+        "wrong decoder in rounds, an edge gains one half-edge in a round: rounds <= 2s, but above s for {above_s} sets, and {covered_wound} covered sets wind"
+    );
     Ok(())
 }

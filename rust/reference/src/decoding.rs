@@ -2,9 +2,9 @@
 
 use crate::board::{Board, Sheet, size};
 use crate::components::components;
-use crate::growth::{self, FULL};
+use crate::growth::{self, FULL, Grown};
 use crate::peeling;
-use crate::refusal::{self, NO_CORRECTION, Refusal, refuse};
+use crate::refusal::{self, NO_CORRECTION, Refusal, Test, refuse};
 
 /// What decoding returns and writes.
 #[derive(Clone, Debug, PartialEq, Eq)]
@@ -35,15 +35,25 @@ pub fn decode_into(sheet: &Sheet, support: usize, correction: usize) -> Result<K
 
 /// The key of a sheet that breaks no rule, or number 10.
 pub(crate) fn key(sheet: &Sheet) -> Result<Key, Refusal> {
-    let board = &sheet.board;
-    if let Some(vertex) = smallest_odd(board, &sheet.syndrome) {
-        return refuse(NO_CORRECTION, vertex);
+    every_part_even(sheet)?;
+    let Grown { growths, support } = growth::grow(sheet);
+    let correction = peeled(sheet, &support);
+    Ok(Key { growths, support, correction })
+}
+
+/// Number 10 where some connected part of the whole board is odd.
+pub(crate) fn every_part_even(sheet: &Sheet) -> Test {
+    match smallest_odd(&sheet.board, &sheet.syndrome) {
+        Some(vertex) => refuse(NO_CORRECTION, vertex),
+        None => Ok(()),
     }
-    let grown = growth::grow(sheet);
-    let forest = peeling::forest(board, |edge| grown.support[edge] == FULL);
-    let correction = peeling::peel(board, &forest, &sheet.syndrome)
-        .expect("no cluster is odd, so the forest has the correction");
-    Ok(Key { growths: grown.growths, support: grown.support, correction })
+}
+
+/// The correction in the forest of the full edges, once growth has ended.
+pub(crate) fn peeled(sheet: &Sheet, support: &[u8]) -> Vec<u8> {
+    let forest = peeling::forest(&sheet.board, |edge| support[edge] == FULL);
+    peeling::peel(&sheet.board, &forest, &sheet.syndrome)
+        .expect("no cluster is odd, so the forest has the correction")
 }
 
 /// Document 02, K2: the smallest vertex of all connected parts of the board that hold an odd number

@@ -16,8 +16,7 @@ pub struct Grown {
 /// Growth of a sheet of which no connected part is odd.
 pub fn grow(sheet: &Sheet) -> Grown {
     let board = &sheet.board;
-    // Step 1.
-    let mut support: Vec<u8> = sheet.loss.iter().map(|lost| lost * FULL).collect();
+    let mut support = start(sheet);
     // Each growth adds to the support of an edge of any set that has the syndrome.
     for growths in 0..=2 * board.edges() {
         let cluster = components(board, |edge| support[edge] == FULL);
@@ -27,6 +26,11 @@ pub fn grow(sheet: &Sheet) -> Grown {
         gain(board, &mut support, |vertex| cluster[vertex] == chosen);
     }
     unreachable!("no set has this syndrome")
+}
+
+/// Step 1: lost edges start full, others empty.
+pub(crate) fn start(sheet: &Sheet) -> Vec<u8> {
+    sheet.loss.iter().map(|lost| lost * FULL).collect()
 }
 
 /// Steps 2 and 3: the odd cluster with the smallest boundary size and, among equals, the smallest

@@ -1,8 +1,9 @@
 //! A plain decoder, written from document 01's steps and sharing nothing with the proved one.
 //!
-//! Nothing here is clever or fast: each section of document 01 is one module, in its words. Beside
-//! them stand a second way to find the number of a malformed line ([`line_numbers`]), a seeded
-//! generator of random numbers, and the boards that decoders are tried on.
+//! Nothing here is clever or fast: each section of document 01 is one module, in its words, and so is
+//! growing in rounds ([`rounds`]), which document 02 adds. Beside them stand a second way to find the
+//! number of a malformed line ([`line_numbers`]), a seeded generator of random numbers, and the boards
+//! that decoders are tried on.
 //!
 //! A set of vertices or edges is a slice with a byte for each, 0 or 1, as the calls are lent it.
 
@@ -18,6 +19,7 @@ pub mod peeling;
 pub mod program;
 pub mod random;
 pub mod refusal;
+pub mod rounds;
 pub mod text;
 pub mod torus;
 pub mod verdict;
@@ -26,3 +28,4 @@ pub use board::{Board, Sheet};
 pub use decoding::{Key, decode};
 pub use random::Random;
 pub use refusal::Refusal;
+pub use rounds::{RoundsKey, decode_rounds};

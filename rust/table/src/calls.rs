@@ -1,6 +1,7 @@
 //! The calls, one file each: a function of the static library on slices, and what its number says.
 
 mod decode;
+mod decode_rounds;
 mod distance;
 mod read;
 mod torus;
@@ -8,6 +9,7 @@ mod verdict;
 mod write;
 
 pub use decode::{Key, decode};
+pub use decode_rounds::{RoundsKey, decode_rounds};
 pub use distance::distance;
 pub use read::{Counts, read};
 pub use torus::torus;

@@ -39,6 +39,22 @@ unsafe extern "C" {
         correction_count: usize,
     ) -> u64;
 
+    pub fn surface_decode_rounds(
+        vertices: usize,
+        ends: *const u16,
+        ends_count: usize,
+        marks: *const u8,
+        marks_count: usize,
+        syndrome: *const u8,
+        syndrome_count: usize,
+        loss: *const u8,
+        loss_count: usize,
+        support: *mut u8,
+        support_count: usize,
+        correction: *mut u8,
+        correction_count: usize,
+    ) -> u64;
+
     pub fn surface_verdict(
         vertices: usize,
         ends: *const u16,

@@ -37,5 +37,6 @@ mod packed;
 mod refusal;
 
 pub use board::{Board, EDGES, Sheet, TEXT, VERTICES};
-pub use calls::{Counts, Key, Verdict, decode, distance, read, torus, verdict, write};
+pub use calls::{Counts, Key, RoundsKey, Verdict};
+pub use calls::{decode, decode_rounds, distance, read, torus, verdict, write};
 pub use refusal::Refusal;

@@ -8,10 +8,11 @@ use reference::decoding::decode_into;
 use reference::distance::distance_into;
 use reference::line_numbers::first_malformed_line;
 use reference::refusal;
+use reference::rounds::decode_rounds_into;
 use reference::text::{self, write_into};
 use reference::torus::torus_into;
 use reference::verdict::{self as plain_verdict, Verdict as PlainVerdict};
-use reference::{Key, Refusal as PlainRefusal};
+use reference::{Key, Refusal as PlainRefusal, RoundsKey};
 use table::{Counts, Refusal, Verdict};
 
 use crate::guarded::Guarded;
@@ -74,22 +75,31 @@ fn is_refusal(refusal: Refusal, plain: PlainRefusal) -> bool {
     (refusal.number(), refusal.place()) == (plain.number, plain.place)
 }
 
-/// Decoding with buffers of these lengths to fill.
-pub fn decode_with(sheet: &Sheet, support: usize, correction: usize) -> Result<Key, Refusal> {
+/// What a decoder answers and writes: its steps, the support and the correction.
+type Written<'a> = (usize, &'a Vec<u8>, &'a Vec<u8>);
+
+/// A call of a decoder on a sheet, with two buffers of these lengths to fill, which answers with two
+/// numbers: all that can be seen of it, held against what the plain decoder answers.
+fn fills(
+    sheet: &Sheet,
+    (support, correction): (usize, usize),
+    call: impl FnOnce(table::Sheet<'_>, &mut [u8], &mut [u8]) -> Result<(usize, usize), Refusal>,
+    plain: Result<Written<'_>, &PlainRefusal>,
+) -> Result<(), Refusal> {
     let mut lent = LentSheet::new(sheet);
     let before = (noise(support), noise(correction));
     let mut support_bytes = Guarded::new(&before.0, BYTE_GUARD);
     let mut correction_bytes = Guarded::new(&before.1, BYTE_GUARD);
-    let answer = table::decode(lent.lent(), support_bytes.lent(), correction_bytes.lent());
+    let answer = call(lent.lent(), support_bytes.lent(), correction_bytes.lent());
     lent.returned();
     let after = (support_bytes.returned(), correction_bytes.returned());
-    match (answer, decode_into(sheet, support, correction)) {
-        (Ok(table::Key { growths, edges }), Ok(key)) => {
-            assert_eq!((growths, edges), (key.growths, key.edges()), "{sheet:?}");
-            assert_eq!(after, (key.support.clone(), key.correction.clone()), "{sheet:?}");
-            Ok(key)
+    match (answer, plain) {
+        (Ok(values), Ok((steps, support, correction))) => {
+            assert_eq!(values, (steps, size(correction)), "{sheet:?}");
+            assert_eq!((&after.0, &after.1), (support, correction), "{sheet:?}");
+            Ok(())
         }
-        (Err(refusal), Err(plain)) => {
+        (Err(refusal), Err(&plain)) => {
             assert!(is_refusal(refusal, plain), "{refusal:?}, not {plain:?}: {sheet:?}");
             assert_eq!(after, before, "a refusal wrote: {sheet:?}");
             Err(refusal)
@@ -98,10 +108,44 @@ pub fn decode_with(sheet: &Sheet, support: usize, correction: usize) -> Result<K
     }
 }
 
+/// Decoding with buffers of these lengths to fill.
+pub fn decode_with(sheet: &Sheet, support: usize, correction: usize) -> Result<Key, Refusal> {
+    let plain = decode_into(sheet, support, correction);
+    let written = plain.as_ref().map(|key| (key.growths, &key.support, &key.correction));
+    let call = |sheet: table::Sheet<'_>, support: &mut [u8], correction: &mut [u8]| {
+        let table::Key { growths, edges } = table::decode(sheet, support, correction)?;
+        Ok((growths, edges))
+    };
+    fills(sheet, (support, correction), call, written)?;
+    Ok(plain.expect("a key, as both answered"))
+}
+
 /// Decoding with buffers of the right lengths to fill.
 pub fn decode(sheet: &Sheet) -> Result<Key, Refusal> {
     let edges = sheet.board.edges();
     decode_with(sheet, edges, edges)
+}
+
+/// Decoding in rounds with buffers of these lengths to fill.
+pub fn decode_rounds_with(
+    sheet: &Sheet,
+    support: usize,
+    correction: usize,
+) -> Result<RoundsKey, Refusal> {
+    let plain = decode_rounds_into(sheet, support, correction);
+    let written = plain.as_ref().map(|key| (key.rounds, &key.support, &key.correction));
+    let call = |sheet: table::Sheet<'_>, support: &mut [u8], correction: &mut [u8]| {
+        let table::RoundsKey { rounds, edges } = table::decode_rounds(sheet, support, correction)?;
+        Ok((rounds, edges))
+    };
+    fills(sheet, (support, correction), call, written)?;
+    Ok(plain.expect("a key, as both answered"))
+}
+
+/// Decoding in rounds with buffers of the right lengths to fill.
+pub fn decode_rounds(sheet: &Sheet) -> Result<RoundsKey, Refusal> {
+    let edges = sheet.board.edges();
+    decode_rounds_with(sheet, edges, edges)
 }
 
 /// The verdict on a handed-in set.

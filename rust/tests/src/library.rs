@@ -1,25 +1,39 @@
 //! The library's calls on the plain decoder's types, compared with nothing.
 
-use reference::{Board, Key, Refusal, Sheet};
+use reference::{Board, Key, Refusal, RoundsKey, Sheet};
 
 fn lent(board: &Board) -> table::Board<'_> {
     table::Board { vertices: board.vertices, ends: &board.ends, marks: &board.marks }
+}
+
+fn lent_sheet(sheet: &Sheet) -> table::Sheet<'_> {
+    table::Sheet { board: lent(&sheet.board), syndrome: &sheet.syndrome, loss: &sheet.loss }
+}
+
+fn plain(refusal: table::Refusal) -> Refusal {
+    Refusal { number: refusal.number(), place: refusal.place() }
 }
 
 /// Decoding, with a key put together from the answer and what was written.
 pub fn decode(sheet: &Sheet) -> Result<Key, Refusal> {
     let edges = sheet.board.edges();
     let (mut support, mut correction) = (vec![0; edges], vec![0; edges]);
-    let lent =
-        table::Sheet { board: lent(&sheet.board), syndrome: &sheet.syndrome, loss: &sheet.loss };
-    match table::decode(lent, &mut support, &mut correction) {
-        Ok(table::Key { growths, edges }) => {
-            let key = Key { growths, support, correction };
-            assert_eq!(key.edges(), edges, "another count than was written: {sheet:?}");
-            Ok(key)
-        }
-        Err(refusal) => Err(Refusal { number: refusal.number(), place: refusal.place() }),
-    }
+    let answer = table::decode(lent_sheet(sheet), &mut support, &mut correction);
+    let table::Key { growths, edges } = answer.map_err(plain)?;
+    let key = Key { growths, support, correction };
+    assert_eq!(key.edges(), edges, "another count than was written: {sheet:?}");
+    Ok(key)
+}
+
+/// Decoding in rounds, with a key put together from the answer and what was written.
+pub fn decode_rounds(sheet: &Sheet) -> Result<RoundsKey, Refusal> {
+    let edges = sheet.board.edges();
+    let (mut support, mut correction) = (vec![0; edges], vec![0; edges]);
+    let answer = table::decode_rounds(lent_sheet(sheet), &mut support, &mut correction);
+    let table::RoundsKey { rounds, edges } = answer.map_err(plain)?;
+    let key = RoundsKey { rounds, support, correction };
+    assert_eq!(key.edges(), edges, "another count than was written: {sheet:?}");
+    Ok(key)
 }
 
 /// The distance of a board that keeps the rules, with the loop that was written.

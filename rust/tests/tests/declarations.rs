@@ -60,9 +60,10 @@ fn slices(parameters: Vec<String>) -> Vec<String> {
 #[test]
 fn declared_as_exported() {
     let exported = functions(RATTLE, "pub extern \"C\" fn ", str::to_string);
-    assert_eq!(exported.len(), 6);
-    let decode = &exported[0];
+    assert_eq!(exported.len(), 7);
+    let [decode, rounds] = [&exported[0], &exported[1]];
     assert_eq!((decode.0.as_str(), decode.1.len()), ("surface_decode", 7));
+    assert_eq!((rounds.0.as_str(), &rounds.1), ("surface_decode_rounds", &decode.1));
     assert_eq!(functions(HEADER, "\nuint64_t ", in_rust), exported, "the header");
     assert_eq!(functions(CRATE, "pub fn ", str::to_string), exported, "the crate");
 }

@@ -1,6 +1,7 @@
-//! Demand 3 held against the library on every set of edges of small boards.
+//! Demand 3, and what growing in rounds promises, held against the library on every set of edges of
+//! small boards.
 
-use demand3::{Tally, boards, hold};
+use demand3::{RoundsTally, Tally, boards, hold, hold_rounds};
 use table_tests::library;
 
 #[test]
@@ -13,4 +14,18 @@ fn demand3_on_every_set() {
     }
     println!("{tally:?}");
     assert!(tally.has_seen_all(), "{tally:?}");
+}
+
+/// Beside what is promised: rounds are never above s, and no covered set winds.
+#[test]
+fn rounds_on_every_set() {
+    let mut tally = RoundsTally::default();
+    for (board, loss) in boards(161, 4000) {
+        if let Err(violation) = hold_rounds(&board, &loss, library::decode_rounds, &mut tally) {
+            panic!("{violation:?}");
+        }
+    }
+    println!("{tally:?}");
+    assert!(tally.has_seen_all(), "{tally:?}");
+    assert_eq!((tally.above_s, tally.covered_wound), (0, 0), "{tally:?}");
 }

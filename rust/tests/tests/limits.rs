@@ -3,23 +3,46 @@
 use reference::board::{Board, Sheet};
 use reference::generators::{crowd, path, star};
 use reference::torus::torus;
-use reference::{Key, Random};
+use reference::{Key, Random, RoundsKey};
 use table::{Refusal, Verdict};
 use table_tests::agrees;
 
-fn key(board: Board, lit: &[usize], lost: &[usize]) -> Key {
+/// The keys of both decoders.
+fn decoded(sheet: &Sheet) -> (Key, RoundsKey) {
+    let key = agrees::decode(sheet).expect("a correction");
+    (key, agrees::decode_rounds(sheet).expect("a correction in rounds"))
+}
+
+/// The refusal of both decoders.
+fn refused(sheet: &Sheet) -> Refusal {
+    let refusal = agrees::decode(sheet).expect_err("a refusal");
+    assert_eq!(agrees::decode_rounds(sheet).expect_err("a refusal in rounds"), refusal);
+    refusal
+}
+
+fn keys(board: Board, lit: &[usize], lost: &[usize]) -> (Key, RoundsKey) {
     let sheet = Sheet::new(board, lit, lost);
-    let key = agrees::decode(&sheet).expect("a correction");
     let text = agrees::write(&sheet).expect("a text within the limit");
     assert_eq!(agrees::read(&text).as_ref(), Ok(&sheet));
-    key
+    decoded(&sheet)
+}
+
+/// The growths and the rounds.
+fn steps(board: Board, lit: &[usize], lost: &[usize]) -> (usize, usize) {
+    let (key, rounds) = keys(board, lit, lost);
+    (key.growths, rounds.rounds)
+}
+
+/// The key of the decoder that grows one cluster at a time.
+fn key(board: Board, lit: &[usize], lost: &[usize]) -> Key {
+    keys(board, lit, lost).0
 }
 
 #[test]
 fn long_path() {
-    assert_eq!(key(path(1024), &[0, 1023], &[]).growths, 2 * 1023);
-    assert_eq!(key(path(1024), &[0, 1023], &(0..1023).collect::<Vec<_>>()).growths, 0);
-    assert_eq!(key(path(1024), &[511, 512], &[]).growths, 2);
+    assert_eq!(steps(path(1024), &[0, 1023], &[]), (2 * 1023, 1023));
+    assert_eq!(steps(path(1024), &[0, 1023], &(0..1023).collect::<Vec<_>>()), (0, 0));
+    assert_eq!(steps(path(1024), &[511, 512], &[]), (2, 1));
     let all: Vec<usize> = (0..1024).collect();
     assert_eq!(key(path(1024), &all, &[]).edges(), 512);
 }
@@ -36,8 +59,7 @@ fn large_star() {
 fn single_vertices() {
     let alone = Board::new(1024, &[]);
     assert_eq!(key(alone.clone(), &[], &[]).growths, 0);
-    let refusal = agrees::decode(&Sheet::new(alone, &[1023], &[])).expect_err("an odd part");
-    assert_eq!(refusal, Refusal::NoCorrection(1023));
+    assert_eq!(refused(&Sheet::new(alone, &[1023], &[])), Refusal::NoCorrection(1023));
 }
 
 #[test]
@@ -50,8 +72,7 @@ fn most_edges() {
             let board = crowd(&mut random, vertices, 4096);
             let syndrome = board.syndrome(&random.set(4096, rate));
             let loss = random.set(4096, 20);
-            let sheet = Sheet { board, syndrome, loss };
-            agrees::decode(&sheet).expect("the syndrome of a set");
+            decoded(&Sheet { board, syndrome, loss });
         }
     }
 }
@@ -74,7 +95,7 @@ fn most_loop_edges_on_one_vertex() {
         let odd = agrees::verdict(&Sheet::new(board.clone(), &[], &[]), &handed);
         assert_eq!(odd, Ok(if mark == 0 { Verdict::Same } else { Verdict::Wound(mark) }));
         let lit = Sheet::new(board, &[0], &[]);
-        assert_eq!(agrees::decode(&lit), Err(Refusal::NoCorrection(0)));
+        assert_eq!(refused(&lit), Refusal::NoCorrection(0));
         assert_eq!(agrees::verdict(&lit, &handed), Err(Refusal::NoCorrection(0)));
     }
 }
@@ -90,13 +111,13 @@ fn most_loop_edges_on_all_vertices() {
     let lost: Vec<usize> = (0..4096).step_by(7).collect();
     assert_eq!(key(board.clone(), &[], &lost).growths, 0);
     for lit in [&[1023][..], &[517, 1023], &[0, 1, 2, 3]] {
-        let refusal = agrees::decode(&Sheet::new(board.clone(), lit, &lost));
-        assert_eq!(refusal, Err(Refusal::NoCorrection(lit[0])));
+        let sheet = Sheet::new(board.clone(), lit, &lost);
+        assert_eq!(refused(&sheet), Refusal::NoCorrection(lit[0]));
     }
 }
 
 /// A path whose two ends are lit, with three loop edges or more at each vertex. {0} grows along it,
-/// and fills all loop edges but those at its other end.
+/// and fills all loop edges but those at its other end. In rounds both ends grow, and fill all.
 #[test]
 fn long_path_with_loop_edges() {
     let mut board = path(1024);
@@ -104,8 +125,10 @@ fn long_path_with_loop_edges() {
         board.ends.extend([(edge - 1023) % 1024; 2]);
         board.marks.push(0);
     }
-    let key = key(board.clone(), &[0, 1023], &[]);
+    let (key, rounds) = keys(board.clone(), &[0, 1023], &[]);
     assert_eq!((key.growths, key.edges()), (2 * 1023, 1023));
+    assert_eq!((rounds.rounds, rounds.edges()), (1023, 1023));
+    assert_eq!(rounds.support, [2; 4096]);
     for edge in 0..4096 {
         let at_the_end = board.ends_of(edge) == [1023, 1023];
         assert_eq!(key.support[edge], if at_the_end { 0 } else { 2 }, "edge {edge}");
@@ -120,7 +143,6 @@ fn largest_torus() {
     for flips in [50, 100, 200, 1024] {
         let syndrome = board.syndrome(&random.set_of_size(2048, flips));
         let loss = random.set_of_size(2048, flips / 4);
-        let sheet = Sheet { board: board.clone(), syndrome, loss };
-        agrees::decode(&sheet).expect("the syndrome of a set");
+        decoded(&Sheet { board: board.clone(), syndrome, loss });
     }
 }

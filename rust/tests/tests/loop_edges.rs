@@ -4,7 +4,7 @@ use demand3::{Tally, hold};
 use reference::board::{Board, Sheet, members, together};
 use reference::generators::{Kind, crowd_with_loops, cycle, sheet};
 use reference::torus::torus;
-use reference::{Key, Random, text};
+use reference::{Key, Random, RoundsKey, text};
 use table::{Refusal, Verdict};
 use table_tests::{agrees, library};
 
@@ -33,17 +33,22 @@ struct States {
 
 impl States {
     /// A loop edge is full or has no half-edge, and is not in the correction.
-    fn count(&mut self, sheet: &Sheet, key: &Key) {
+    fn count(&mut self, sheet: &Sheet, support: &[u8], correction: &[u8]) {
         for edge in loops(&sheet.board) {
-            let state = match (sheet.loss[edge], key.support[edge]) {
+            let state = match (sheet.loss[edge], support[edge]) {
                 (1, 2) => &mut self.lost,
                 (0, 2) => &mut self.grown,
                 (0, 0) => &mut self.empty,
                 (_, support) => panic!("loop edge {edge} has support {support}: {sheet:?}"),
             };
             state[is_marked(&sheet.board, edge)] += 1;
-            assert_eq!(key.correction[edge], 0, "loop edge {edge}: {sheet:?}");
+            assert_eq!(correction[edge], 0, "loop edge {edge}: {sheet:?}");
         }
+    }
+
+    /// Whether each was seen often.
+    fn seen(&self) -> bool {
+        [self.lost, self.grown, self.empty].as_flattened().iter().all(|&count| count > 500)
     }
 }
 
@@ -94,20 +99,24 @@ fn measure(board: &Board, answers: &mut Answers) {
 #[test]
 fn every_call_with_many_loop_edges() {
     let mut random = Random::new(121);
-    let (mut states, mut answers) = (States::default(), Answers::default());
+    let (mut states, mut in_rounds) = (States::default(), States::default());
+    let mut answers = Answers::default();
     for round in 0..12_000 {
         let board = match round % 40 {
             0 => crowd_with_loops(&mut random, 50, 300),
             _ => Kind::Loops.board(&mut random),
         };
         let sheet = sheet(&mut random, board);
-        match agrees::decode(&sheet) {
-            Ok(key) => {
-                states.count(&sheet, &key);
+        match (agrees::decode(&sheet), agrees::decode_rounds(&sheet)) {
+            (Ok(key), Ok(rounds)) => {
+                states.count(&sheet, &key.support, &key.correction);
+                in_rounds.count(&sheet, &rounds.support, &rounds.correction);
                 judge(&mut random, &sheet, &key.correction, &mut answers);
             }
-            Err(refusal) => {
+            (decoded, rounds) => {
+                let refusal = decoded.expect_err("a refusal");
                 answers.no_correction += 1;
+                assert_eq!(rounds, Err(refusal));
                 assert_eq!(agrees::verdict(&sheet, &sheet.loss), Err(refusal));
             }
         }
@@ -115,9 +124,8 @@ fn every_call_with_many_loop_edges() {
         let text = agrees::write(&sheet).expect("a short text");
         assert_eq!(agrees::read(&text).as_ref(), Ok(&sheet));
     }
-    println!("{states:?}, {answers:?}");
-    let States { lost, grown, empty } = states;
-    assert!([lost, grown, empty].as_flattened().iter().all(|&count| count > 500), "{states:?}");
+    println!("{states:?}, in rounds {in_rounds:?}, {answers:?}");
+    assert!(states.seen() && in_rounds.seen(), "{states:?}, in rounds {in_rounds:?}");
     let Answers { no_correction, same, wound, off, distance_1, longer, no_distance } = answers;
     let all = [no_correction, same, wound, off, distance_1, longer, no_distance];
     assert!(all.iter().all(|&count| count > 500), "{answers:?}");
@@ -164,10 +172,13 @@ fn torus_of_side_1() {
     for loss in SETS {
         let dark = Sheet { board: board.clone(), syndrome: vec![0], loss: loss.to_vec() };
         let support = loss.map(|lost| 2 * lost).to_vec();
+        let rounds = RoundsKey { rounds: 0, support: support.clone(), correction: vec![0, 0] };
+        assert_eq!(agrees::decode_rounds(&dark), Ok(rounds));
         let key = Key { growths: 0, support, correction: vec![0, 0] };
         assert_eq!(agrees::decode(&dark), Ok(key));
         let lit = Sheet { syndrome: vec![1], ..dark.clone() };
         assert_eq!(agrees::decode(&lit), Err(Refusal::NoCorrection(0)));
+        assert_eq!(agrees::decode_rounds(&lit), Err(Refusal::NoCorrection(0)));
         let verdicts = [Verdict::Same, Verdict::Wound(1), Verdict::Wound(2), Verdict::Wound(3)];
         for (handed, verdict) in SETS.iter().zip(verdicts) {
             assert_eq!(agrees::verdict(&dark, handed), Ok(verdict), "{handed:?}");
@@ -210,13 +221,15 @@ fn only_loop_edges() {
     };
     for loss in sets(3) {
         let loss: Vec<u8> = loss;
-        let support = loss.iter().map(|lost| 2 * lost).collect();
+        let support: Vec<u8> = loss.iter().map(|lost| 2 * lost).collect();
+        let rounds = RoundsKey { rounds: 0, support: support.clone(), correction: vec![0; 3] };
         let key = Key { growths: 0, support, correction: vec![0; 3] };
         for syndrome in sets(4) {
             let sheet = Sheet { board: board.clone(), syndrome, loss: loss.clone() };
             let odd = members(&sheet.syndrome).next().map(Refusal::NoCorrection);
             let decoded = odd.map_or(Ok(key.clone()), Err);
             assert_eq!(agrees::decode(&sheet), decoded, "{sheet:?}");
+            assert_eq!(agrees::decode_rounds(&sheet), odd.map_or(Ok(rounds.clone()), Err));
             for handed in sets(3) {
                 let handed: Vec<u8> = handed;
                 let closed = if handed[1] == 1 { Verdict::Wound(1) } else { Verdict::Same };
@@ -256,6 +269,7 @@ fn keys_by_hand() {
 fn refused(edges: &[Edge]) -> Option<Refusal> {
     let sheet = Sheet::new(Board::new(3, edges), &[], &[]);
     let refusal = agrees::decode(&sheet).err();
+    assert_eq!(agrees::decode_rounds(&sheet).err(), refusal);
     assert_eq!(agrees::verdict(&sheet, &sheet.loss).err(), refusal);
     assert_eq!(agrees::distance(&sheet.board).err(), refusal);
     assert_eq!(agrees::write(&sheet).err(), refusal);
@@ -290,6 +304,7 @@ fn broken_bytes_of_a_loop_edge() {
     assert_eq!(agrees::verdict(&sheet, &[0, 2]), Err(Refusal::HandedByte(1)));
     sheet.loss[1] = 2;
     assert_eq!(agrees::decode(&sheet), Err(Refusal::LossByte(1)));
+    assert_eq!(agrees::decode_rounds(&sheet), Err(Refusal::LossByte(1)));
     assert_eq!(agrees::verdict(&sheet, &[0, 2]), Err(Refusal::LossByte(1)));
     assert_eq!(agrees::write(&sheet), Err(Refusal::LossByte(1)));
 }

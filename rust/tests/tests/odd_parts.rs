@@ -1,5 +1,5 @@
-//! Document 02, K2: number 10 shows the smallest vertex of all odd parts, in decoding and in the
-//! verdict alike.
+//! Document 02, K2: number 10 shows the smallest vertex of all odd parts, in decoding, in rounds too,
+//! and in the verdict alike.
 
 use reference::Random;
 use reference::board::{Board, Sheet, members};
@@ -11,6 +11,7 @@ use table_tests::agrees;
 /// The vertex that number 10 shows; none where there is a correction.
 fn shown(sheet: &Sheet) -> Option<usize> {
     let decoded = agrees::decode(sheet).err();
+    assert_eq!(agrees::decode_rounds(sheet).err(), decoded, "in rounds: {sheet:?}");
     let judged = agrees::verdict(sheet, &vec![0; sheet.board.edges()]).err();
     assert_eq!(decoded, judged, "decoding and the verdict: {sheet:?}");
     match decoded? {

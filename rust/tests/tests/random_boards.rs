@@ -19,6 +19,7 @@ struct Seen {
     off: usize,
     same: usize,
     wound: usize,
+    rounds_differ: usize,
     distance: usize,
     no_distance: usize,
 }
@@ -31,12 +32,14 @@ fn every_call_agrees() {
         let kind = Kind::ALL[round % Kind::ALL.len()];
         let board = kind.board(&mut random);
         let sheet = sheet(&mut random, board);
-        let near = match agrees::decode(&sheet) {
-            Ok(key) => {
+        let near = match (agrees::decode(&sheet), agrees::decode_rounds(&sheet)) {
+            (Ok(key), Ok(rounds)) => {
                 *(if key.growths > 0 { &mut seen.grown } else { &mut seen.still }) += 1;
+                seen.rounds_differ += usize::from(key.support != rounds.support);
                 key.correction
             }
-            Err(_) => {
+            (decoded, in_rounds) => {
+                assert_eq!(decoded.err(), in_rounds.err(), "{sheet:?}");
                 seen.refused += 1;
                 vec![0; sheet.board.edges()]
             }
@@ -48,8 +51,9 @@ fn every_call_agrees() {
         assert_eq!(agrees::read(&text).as_ref(), Ok(&sheet));
     }
     println!("{BOARDS} boards: {seen:?}");
-    let Seen { grown, still, refused, off, same, wound, distance, no_distance } = seen;
-    let all = [grown, still, refused, off, same, wound, distance, no_distance];
+    let Seen { grown, still, refused, off, same, wound, rounds_differ, distance, no_distance } =
+        seen;
+    let all = [grown, still, refused, off, same, wound, rounds_differ, distance, no_distance];
     assert!(all.iter().all(|&count| count > 1000), "{seen:?}");
 }
 

@@ -15,9 +15,10 @@ fn judged(sheet: &Sheet, handed: &[u8]) -> (u8, u64) {
     refused(agrees::verdict(sheet, handed))
 }
 
-/// All three calls that are lent a sheet refuse it alike.
+/// All four calls that are lent a sheet refuse it alike.
 fn sheet_refused(sheet: &Sheet) -> (u8, u64) {
     let refusal = refused(agrees::decode(sheet));
+    assert_eq!(refused(agrees::decode_rounds(sheet)), refusal);
     assert_eq!(judged(sheet, &vec![0; sheet.board.edges()]), refusal);
     assert_eq!(refused(agrees::write(sheet)), refusal);
     refusal
@@ -30,9 +31,10 @@ fn board_refused(sheet: &Sheet) -> (u8, u64) {
     refusal
 }
 
-/// None of the four calls refuses.
+/// None of the five calls refuses.
 fn none_refuses(sheet: &Sheet) {
     agrees::decode(sheet).expect("decoding");
+    agrees::decode_rounds(sheet).expect("decoding in rounds");
     assert!(agrees::verdict(sheet, &vec![0; sheet.board.edges()]).is_ok(), "the verdict");
     agrees::distance(&sheet.board).expect("distance");
     agrees::write(sheet).expect("writing");
@@ -73,6 +75,8 @@ fn number_3() {
     for wrong in [0, 2, 4, 1000] {
         assert_eq!(refused(agrees::decode_with(&sheet, wrong, 3)), (3, 0));
         assert_eq!(refused(agrees::decode_with(&sheet, 3, wrong)), (3, 0));
+        assert_eq!(refused(agrees::decode_rounds_with(&sheet, wrong, 3)), (3, 0));
+        assert_eq!(refused(agrees::decode_rounds_with(&sheet, 3, wrong)), (3, 0));
         assert_eq!(judged(&sheet, &vec![0; wrong]), (3, 0));
         assert_eq!(refused(agrees::distance_with(&sheet.board, wrong)), (3, 0));
         let mut marks = sheet.clone();
@@ -96,6 +100,7 @@ fn broken_at(change: impl Fn(&mut Sheet, usize, bool), count: usize, number: u8)
         change(&mut sheet, place, false);
         let refusal = agrees::decode(&sheet).err();
         assert!(matches!(refusal, None | Some(Refusal::NoCorrection(_))), "{refusal:?}");
+        assert_eq!(agrees::decode_rounds(&sheet).err(), refusal);
         agrees::write(&sheet).expect("a value at its limit");
         change(&mut sheet, place, true);
         assert_eq!(sheet_refused(&sheet), (number, place as u64));
@@ -213,6 +218,32 @@ fn numbers_12_and_14() {
     }
 }
 
+/// A sheet that breaks every rule of a decoder, mended from the smallest number on.
+#[test]
+fn numbers_in_their_order() {
+    let board = Board { vertices: 1025, ends: vec![0, 1, 2, 2, 3, 3, 4], marks: vec![0, 4, 5, 0] };
+    let mut sheet = Sheet { board, syndrome: vec![0, 2, 2], loss: vec![0, 2, 3, 0] };
+    assert_eq!(sheet_refused(&sheet), (1, 0));
+    sheet.board.vertices = 4;
+    assert_eq!(sheet_refused(&sheet), (2, 0));
+    sheet.board.ends.push(4);
+    assert_eq!(sheet_refused(&sheet), (3, 0));
+    sheet.syndrome.push(0);
+    assert_eq!(sheet_refused(&sheet), (4, 3));
+    sheet.board.vertices = 5;
+    sheet.syndrome.push(0);
+    assert_eq!(sheet_refused(&sheet), (6, 1));
+    sheet.board.marks = vec![0, 3, 3, 0];
+    assert_eq!(sheet_refused(&sheet), (7, 1));
+    sheet.syndrome[1..].copy_from_slice(&[1, 0, 0, 0]);
+    assert_eq!(sheet_refused(&sheet), (8, 1));
+    sheet.loss = vec![0, 1, 1, 0];
+    assert_eq!(refused(agrees::decode(&sheet)), (10, 0));
+    assert_eq!(refused(agrees::decode_rounds(&sheet)), (10, 0));
+    sheet.syndrome[0] = 1;
+    none_refuses(&sheet);
+}
+
 /// Breaks one rule at random, or none where it makes an edge a loop edge.
 fn break_a_rule(random: &mut Random, sheet: &mut Sheet) {
     let edges = sheet.board.edges().max(1);
@@ -261,6 +292,7 @@ fn several_rules_broken() {
         let length = random.below(200);
         let outcomes = [
             agrees::decode(&sheet).err(),
+            agrees::decode_rounds(&sheet).err(),
             agrees::distance(&sheet.board).err(),
             agrees::write_with(&sheet, length).err(),
             agrees::verdict(&sheet, &handed).err(),

@@ -117,7 +117,7 @@ fn number_5_is_not_in_use() {
         let row = RULES.lines().find(|line| line.starts_with(&format!("| {call} |")));
         row.and_then(|row| row.split('|').nth(4)).expect("the tests of a call")
     };
-    for call in ["decode", "verdict", "distance", "torus", "read", "write"] {
+    for call in ["decode", "decode_rounds", "verdict", "distance", "torus", "read", "write"] {
         let numbers: Vec<&str> = tests(call).split_whitespace().collect();
         assert!(numbers.contains(&"3") && !numbers.contains(&"5"), "{call}: {numbers:?}");
     }

@@ -4,7 +4,7 @@ use std::thread;
 
 use reference::generators::{Kind, sheet};
 use reference::torus::torus;
-use reference::{Key, Random, Refusal, Sheet};
+use reference::{Random, Sheet};
 use table_tests::{agrees, library};
 
 const THREADS: usize = 4;
@@ -30,13 +30,14 @@ fn sheets() -> Vec<Sheet> {
 #[test]
 fn keys_are_those_of_one_thread() {
     let sheets = &sheets();
-    let keys: &Vec<Result<Key, Refusal>> = &sheets.iter().map(library::decode).collect();
+    let decode = |sheet: &Sheet| (library::decode(sheet), library::decode_rounds(sheet));
+    let keys: &Vec<_> = &sheets.iter().map(decode).collect();
     thread::scope(|scope| {
         for first in 0..THREADS {
             scope.spawn(move || {
                 let turn = sheets.len() / THREADS * first;
                 for at in (turn..sheets.len()).chain(0..turn) {
-                    assert_eq!(library::decode(&sheets[at]), keys[at], "{:?}", sheets[at]);
+                    assert_eq!(decode(&sheets[at]), keys[at], "{:?}", sheets[at]);
                 }
             });
         }
@@ -51,6 +52,11 @@ fn all_calls_at_once() {
         scope.spawn(|| {
             for sheet in sheets {
                 let _ = agrees::decode(sheet);
+            }
+        });
+        scope.spawn(|| {
+            for sheet in sheets {
+                let _ = agrees::decode_rounds(sheet);
             }
         });
         scope.spawn(|| {

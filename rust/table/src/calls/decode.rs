@@ -54,8 +54,15 @@ pub fn decode(sheet: Sheet<'_>, support: &mut [u8], correction: &mut [u8]) -> Re
 
 /// The key of a board with so many edges that a returned number stands for.
 fn unpack_key(returned: u64, all: usize) -> Result<Key, Refusal> {
+    let (growths, edges) = unpack_steps(returned, all)?;
+    Ok(Key { growths, edges })
+}
+
+/// The steps of growth and the correction edges that a returned number stands for, on a board with so
+/// many edges: a decoder makes at most two steps for each edge.
+pub(super) fn unpack_steps(returned: u64, all: usize) -> Result<(usize, usize), Refusal> {
     match unpack(returned, &[1, 2, 3, 4, 6, 7, 8, 10])? {
-        (growths, edges) if growths <= 2 * all && edges <= all => Ok(Key { growths, edges }),
+        (steps, edges) if steps <= 2 * all && edges <= all => Ok((steps, edges)),
         _ => impossible(returned),
     }
 }

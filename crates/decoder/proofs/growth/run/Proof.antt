@@ -9,13 +9,13 @@ use Rattle.decoder.proofs.growth.run.Statement.{statement}
 use Rattle.decoder.proofs.growth.run.Tie as tie
 
 abbrev Inv-loop : tie.InvT-loop
-Inv-loop ends syndrome support₀ book₀ growths₀ support book growths = Running (book₀ .vertices) (length support₀) ends syndrome support₀ support book growths
+Inv-loop growth ends syndrome support₀ book₀ count₀ support book count = Running growth (book₀ .vertices) (length support₀) ends syndrome support₀ support book count
 
 abbrev μ-loop : tie.MeasureT-loop
-μ-loop ends syndrome support₀ book₀ growths₀ support book growths = 2 * length support₀ - growths
+μ-loop growth ends syndrome support₀ book₀ count₀ support book count = 2 * length support₀ - count
 
 loop-holds : tie.Need-loop-holds Inv-loop μ-loop
-loop-holds c = run-begins (c .before .before .before .pre)
+loop-holds c = run-begins _ (c .before .before .before .pre)
 
 step-requires : tie.Need-step-requires Inv-loop μ-loop
 step-requires c κs = running-steppable (c .before .loop .inv)
@@ -23,7 +23,7 @@ step-requires c κs = running-steppable (c .before .loop .inv)
 same-length : tie.Need-same-length Inv-loop μ-loop
 same-length c =
     let stepped = c .before .before .before .before in
-    omega (arith, stepped .step .kept .1 .1 .1 .0, stepped .before .before .loop .inv .steppable .long)
+    omega (arith, stepped .step .kept .1 .1 .1 .1 .0, stepped .before .before .loop .inv .steppable .long)
 
 returns : tie.Need-returns Inv-loop μ-loop
 returns c =
@@ -31,13 +31,13 @@ returns c =
     run-done (stepped .before .before .loop .inv) (stepped .step .ensures) (not-true _ (c .if1 .taken))
 
 -- a cluster has grown, so there were growths left
-more : (c : tie.After-book Inv-loop μ-loop) → c .before .before .before .before .before .before .before .loop .growths < 2 * length (c .before .before .before .before .before .before .before .before .before .before .before .args .support .now)
+more : (c : tie.After-book Inv-loop μ-loop) → c .before .before .before .before .before .before .before .loop .count < 2 * length (c .before .before .before .before .before .before .before .before .before .before .before .args .support .now)
 more c =
     let stepped = c .before .before .before .before .before in
     growths-left (stepped .before .before .loop .inv) (stepped .step .ensures) (not-false _ (c .before .if1 .left))
 
-add-growths : tie.Need-add-growths Inv-loop μ-loop
-add-growths c = omega (arith, more c, c .before .before .before .before .before .before .before .before .before .before .before .pre .steppable .lent .edge-limit)
+add-count : tie.Need-add-count Inv-loop μ-loop
+add-count c = omega (arith, more c, c .before .before .before .before .before .before .before .before .before .before .before .pre .steppable .lent .edge-limit)
 
 loop-less : tie.Need-loop-less Inv-loop μ-loop
 loop-less c = omega (arith, more c)
@@ -57,6 +57,6 @@ run-spec =
     step-requires
     same-length
     returns
-    add-growths
+    add-count
     loop-less
     loop-again)

@@ -5,7 +5,7 @@ use Rattle.decoder.proofs.key.key.Statement.{statement}
 use Rattle.decoder.proofs.key.key.Tie as tie
 
 first-odd-requires : tie.Need-first-odd-requires
-first-odd-requires c κs = searchable _ _ _ _ _ _ (c .before .before .before .before .before .pre)
+first-odd-requires c κs = searchable (c .before .before .before .before .before .args .growth) _ _ _ _ _ _ (c .before .before .before .before .before .pre)
 
 enum-known-v : tie.Need-enum-known-v
 enum-known-v c = search needs
@@ -13,7 +13,8 @@ enum-known-v c = search needs
 returns : tie.Need-returns
 returns c =
     let looked = c .before .before .before in
-    shows-odd _ _ _ _ _ _ (looked .before .before .before .before .before .before .pre) _ (looked .first-odd .ensures) _ (c .before .v .given .1)
+    let start = looked .before .before .before .before .before .before in
+    shows-odd (start .args .growth) _ _ _ _ _ _ (start .pre) _ (looked .first-odd .ensures) _ (c .before .v .given .1)
 
 enum-told : tie.Need-enum-told
 enum-told c = search needs
@@ -23,7 +24,7 @@ start-requires c κs =
     let told = c .before in
     let looked = told .before .before in
     let start = looked .before .before .before .before .before .before in
-    startable _ _ _ _ _ _ (start .pre) _ (looked .first-odd .ensures) (told .enum-told .given .1)
+    startable (start .args .growth) _ _ _ _ _ _ (start .pre) _ (looked .first-odd .ensures) (told .enum-told .given .1)
 
 run-requires : tie.Need-run-requires
 run-requires c κs =
@@ -31,7 +32,7 @@ run-requires c κs =
     let told = started .before .before in
     let looked = told .before .before in
     let start = looked .before .before .before .before .before .before in
-    runnable _ _ _ _ _ _ (start .pre) _ (looked .first-odd .ensures) (told .enum-told .given .1) _ _ (started .start .ensures)
+    runnable (start .args .growth) _ _ _ _ _ _ (start .pre) _ (looked .first-odd .ensures) (told .enum-told .given .1) _ _ (started .start .ensures)
 
 peel-requires : tie.Need-peel-requires
 peel-requires c κs =
@@ -40,7 +41,7 @@ peel-requires c κs =
     let told = started .before .before in
     let looked = told .before .before in
     let start = looked .before .before .before .before .before .before in
-    peelable _ _ _ _ _ _ (start .pre) _ (looked .first-odd .ensures) (told .enum-told .given .1) _ _ (started .start .ensures) _ _ (ran .run .ensures)
+    peelable (start .args .growth) _ _ _ _ _ _ (start .pre) _ (looked .first-odd .ensures) (told .enum-told .given .1) _ _ (started .start .ensures) _ _ (ran .run .ensures)
 
 same-length : tie.Need-same-length
 same-length c = search needs
@@ -56,7 +57,7 @@ returns-2 c =
     let told = started .before .before in
     let looked = told .before .before in
     let start = looked .before .before .before .before .before .before in
-    keyed _ _ _ _ _ _ (start .pre) _ (looked .first-odd .ensures) (told .enum-told .given .1) _ _ (started .start .ensures) _ _ (ran .run .ensures) _ _ (peeled .peel .ensures)
+    keyed (start .args .growth) _ _ _ _ _ _ (start .pre) _ (looked .first-odd .ensures) (told .enum-told .given .1) _ _ (started .start .ensures) _ _ (ran .run .ensures) _ _ (peeled .peel .ensures)
 
 pub key-spec : {M : Type 1} → statement M
 key-spec =

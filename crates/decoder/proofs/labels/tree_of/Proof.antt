@@ -4,15 +4,16 @@ use mathlib.Core.Path.{_≡_, refl, sym, _∙_, subst₂}
 use mathlib.Core.Logic.{⊎-elim}
 use native.Mathlib.Numerals.{add-one}
 use Rattle.model.specs.Board.{vertexLimit}
-use Rattle.decoder.specs.TreeLabels.{Marks}
-use Rattle.decoder.proofs.TreeNames.{mark-none, mark-inside, mark-outside}
+use Rattle.decoder.specs.TreeLabels.{tree, Marks}
+use Rattle.decoder.proofs.Marking.{mark-none, mark-inside, mark-outside}
 use borrow.Author.Needs.{needs}
+use borrow.Author.Tests.{eq-eqb, ne-eqb}
 use native.Mathlib.Omega.{arith}
 use Rattle.decoder.proofs.labels.tree_of.Statement.{statement}
 use Rattle.decoder.proofs.labels.tree_of.Tie as tie
 
 abbrev Inv-loop : tie.InvT-loop
-Inv-loop vertices parent root inside₀ v₀ inside v = (v ≤ vertices) × Marks v parent (root .0) inside
+Inv-loop vertices parent root inside₀ v₀ inside v = (v ≤ vertices) × Marks v (tree parent (root .0)) inside
 
 abbrev μ-loop : tie.MeasureT-loop
 μ-loop vertices parent root inside₀ v₀ inside v = vertices - v
@@ -21,7 +22,7 @@ root-of-requires : tie.Need-root-of-requires Inv-loop μ-loop
 root-of-requires c κs = search needs
 
 loop-holds : tie.Need-loop-holds Inv-loop μ-loop
-loop-holds c = (search needs, mark-none _ _ vertexLimit refl)
+loop-holds c = (search needs, mark-none _ vertexLimit refl)
 
 cast-number : tie.Need-cast-number Inv-loop μ-loop
 cast-number c = search needs
@@ -46,8 +47,8 @@ loop-again c =
       search needs,
       rw add-one
           (⊎-elim
-          (λ w. rw (w .1) (mark-inside _ _ _ _ (at .loop .inv .1) h (sym (found .root-of2 .ensures) ∙ w .0 .taken)))
-          (λ w. rw (w .1) (mark-outside _ _ _ _ (at .loop .inv .1) (λ q. w .0 .left (found .root-of2 .ensures ∙ q))))
+          (λ w. rw (w .1) (mark-inside _ _ _ (at .loop .inv .1) h (eq-eqb _ _ (sym (found .root-of2 .ensures) ∙ w .0 .taken))))
+          (λ w. rw (w .1) (mark-outside _ _ _ (at .loop .inv .1) (ne-eqb _ _ (λ q. w .0 .left (found .root-of2 .ensures ∙ q)))))
           (c .if1 .came)),
     )
 
@@ -55,7 +56,7 @@ returns : tie.Need-returns Inv-loop μ-loop
 returns c =
     let at = c .before in
     let p : at .loop .v ≡ at .before .before .args .vertices = omega arith in
-    subst₂ (λ k r. Marks k (at .before .before .args .parent .now) r (at .loop .inside)) p (at .before .root-of .ensures) (at .loop .inv .1)
+    subst₂ (λ k r. Marks k (tree (at .before .before .args .parent .now) r) (at .loop .inside)) p (at .before .root-of .ensures) (at .loop .inv .1)
 
 pub tree-of-spec : {M : Type 1} → statement M
 tree-of-spec =

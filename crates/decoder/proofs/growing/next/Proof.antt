@@ -1,0 +1,29 @@
+-- `next` meets its contract: by the policy that is asked for. Assumes nothing.
+use Rattle.decoder.proofs.Following.{follows-odd}
+use borrow.Author.Needs.{needs}
+use Rattle.decoder.proofs.growing.next.Statement.{statement}
+use Rattle.decoder.proofs.growing.next.Tie as tie
+
+enum-told : tie.Need-enum-told
+enum-told c = search needs
+
+chosen-cluster-requires : tie.Need-chosen-cluster-requires
+chosen-cluster-requires c κs = search needs
+
+enum-told-2 : tie.Need-enum-told-2
+enum-told-2 c = search needs
+
+odd-clusters-requires : tie.Need-odd-clusters-requires
+odd-clusters-requires c κs = search needs
+
+returns : tie.Need-returns
+returns c = rw (c .before .enum-told .given .1) (c .chosen-cluster .ensures)
+
+returns-2 : tie.Need-returns-2
+returns-2 c =
+    let told = c .before in
+    let start = told .before .before .before .before .before in
+    rw (told .enum-told2 .given .1) (follows-odd _ _ _ _ _ (start .pre) _ (c .odd-clusters .ensures))
+
+pub next-spec : {M : Type 1} → statement M
+next-spec = tie.close (tie.spec enum-told chosen-cluster-requires enum-told-2 odd-clusters-requires returns returns-2)
