@@ -32,6 +32,7 @@ pub mod LoopEdges
 pub mod VerdictGround
 pub mod Spreading
 pub mod NotWinding
+pub mod RoundTurns
 pub mod RoundSpread
 pub mod SoundRounds
 pub mod Demand3
