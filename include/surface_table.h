@@ -16,7 +16,16 @@
  *
  * A board has `vertices` vertices, numbered from 0, and edges numbered from 0: two `ends` for each
  * edge, and one of `marks`, 0 to 3. The two ends may be one vertex: such a loop edge adds nothing to
- * any syndrome. `syndrome` has a byte for each vertex and `loss` a byte for each edge, each 0 or 1.
+ * any syndrome. `open` has a byte for each vertex, 1 where it is open and 0 where it is not; a board
+ * without open sides lends a 0 for each. `syndrome` has a byte for each vertex and `loss` a byte for
+ * each edge, each 0 or 1.
+ *
+ * At an open vertex an error may run off the board. Such a vertex has no syndrome: its syndrome byte
+ * must be 0, and a set of edges is closed where all vertices that are not open touch an even number of
+ * its edges. So a set that runs from one open vertex to another is closed, and winds where its marks
+ * say so; winding, the distance and the rule on t + 2s mean loops in this wider sense. A cluster, or a
+ * part of the board, that holds an open vertex is never odd. With zeros lent all of this is empty: no
+ * vertex may be run off, and closed means even everywhere.
  */
 #ifndef SURFACE_TABLE_H
 #define SURFACE_TABLE_H
@@ -30,7 +39,7 @@ extern "C" {
 
 /* Raised by one whenever a call changes: its parameters, its tests or its answers, or a call more or
  * less. Programs and library must be built from one version; nothing else keeps them together. */
-#define SURFACE_VERSION 3
+#define SURFACE_VERSION 4
 
 /* The largest number of vertices and of edges of a board, and of bytes of a text. */
 #define SURFACE_VERTICES 1024
@@ -40,6 +49,7 @@ extern "C" {
 /* The counts of the buffers that surface_read fills. */
 #define SURFACE_ENDS (2 * SURFACE_EDGES)
 #define SURFACE_MARKS SURFACE_EDGES
+#define SURFACE_OPEN SURFACE_VERTICES
 #define SURFACE_SYNDROME SURFACE_VERTICES
 #define SURFACE_LOSS SURFACE_EDGES
 
@@ -54,8 +64,9 @@ static inline uint32_t surface_first(uint64_t returned) { return (uint32_t)(retu
 static inline uint32_t surface_second(uint64_t returned) { return (uint32_t)(returned >> 40); }
 
 /* The refusal's numbers, each with its place. A call that refuses has written nothing. Of all the
- * rules that are broken, the one with the smallest number is returned, at its smallest place;
- * surface_torus alone tests 11 before 3. Number 5 is not in use. */
+ * rules that are broken, the one that the call tests first is returned, at its smallest place. Calls
+ * test in the order of the numbers, but for these: 16 and 17 come before 10, 12 and 14, surface_torus
+ * tests 11 before 3, and surface_planar 18 before 3. Numbers 5 and 15 are not in use. */
 enum surface_refusal_number {
     SURFACE_NOT_REFUSED = 0,
     SURFACE_REFUSED_VERTEX_COUNT = 1,    /* place 0 */
@@ -72,7 +83,10 @@ enum surface_refusal_number {
     SURFACE_REFUSED_TORUS_SIDE = 11,     /* the side */
     SURFACE_REFUSED_TEXT_LENGTH = 12,    /* place 0 */
     SURFACE_REFUSED_MALFORMED_LINE = 13, /* the line, from 1; the first such */
-    SURFACE_REFUSED_TEXT_BUFFER = 14     /* place 0 */
+    SURFACE_REFUSED_TEXT_BUFFER = 14,    /* place 0 */
+    SURFACE_REFUSED_OPEN_BYTE = 16,      /* the vertex */
+    SURFACE_REFUSED_LIT_OPEN = 17,       /* the vertex */
+    SURFACE_REFUSED_PLANAR_SIDE = 18     /* the side */
 };
 
 /* What a refusal's number says; where it speaks of the edge, the vertex, the side or the line, the
@@ -94,6 +108,9 @@ static inline const char *surface_refusal_text(unsigned number)
     case SURFACE_REFUSED_TEXT_LENGTH: return "the text has more than 65,536 bytes";
     case SURFACE_REFUSED_MALFORMED_LINE: return "the line is malformed";
     case SURFACE_REFUSED_TEXT_BUFFER: return "the buffer is shorter than the text";
+    case SURFACE_REFUSED_OPEN_BYTE: return "the vertex has an open byte above 1";
+    case SURFACE_REFUSED_LIT_OPEN: return "the vertex is open and lit";
+    case SURFACE_REFUSED_PLANAR_SIDE: return "the side of a planar board is outside 2 to 31";
     default: return "no refusal has this number";
     }
 }
@@ -105,14 +122,17 @@ static inline const char *surface_refusal_text(unsigned number)
 #define SURFACE_STACK_VERDICT 53248
 #define SURFACE_STACK_DISTANCE 53248
 #define SURFACE_STACK_TORUS 8192
+#define SURFACE_STACK_PLANAR 8192
 #define SURFACE_STACK_READ 32768
 #define SURFACE_STACK_WRITE 98304
 
 /* Decodes. Fills `support` with 0 to 2 half-edges and `correction` with 0 or 1, a byte for each edge.
+ * The correction has the syndrome, and may end at open vertices, which have none.
  * First value: the growths. Second: the number of correction edges. */
 uint64_t surface_decode(size_t vertices,
                         const uint16_t *ends, size_t ends_count,
                         const uint8_t *marks, size_t marks_count,
+                        const uint8_t *open, size_t open_count,
                         const uint8_t *syndrome, size_t syndrome_count,
                         const uint8_t *loss, size_t loss_count,
                         uint8_t *support, size_t support_count,
@@ -129,6 +149,7 @@ uint64_t surface_decode(size_t vertices,
 uint64_t surface_decode_rounds(size_t vertices,
                                const uint16_t *ends, size_t ends_count,
                                const uint8_t *marks, size_t marks_count,
+                               const uint8_t *open, size_t open_count,
                                const uint8_t *syndrome, size_t syndrome_count,
                                const uint8_t *loss, size_t loss_count,
                                uint8_t *support, size_t support_count,
@@ -136,7 +157,8 @@ uint64_t surface_decode_rounds(size_t vertices,
 
 /* What surface_verdict's first value says of the handed-in set. */
 enum surface_verdict_value {
-    SURFACE_OFF = 1,   /* its syndrome differs; second value: the smallest vertex where it does */
+    SURFACE_OFF = 1,   /* its syndrome differs; second value: the smallest vertex where it does, which
+                          is not open */
     SURFACE_SAME = 2,  /* together with the correction it doesn't wind */
     SURFACE_WOUND = 3  /* together they wind; second value: the exclusive or of their marks, 1 to 3 */
 };
@@ -145,6 +167,7 @@ enum surface_verdict_value {
 uint64_t surface_verdict(size_t vertices,
                          const uint16_t *ends, size_t ends_count,
                          const uint8_t *marks, size_t marks_count,
+                         const uint8_t *open, size_t open_count,
                          const uint8_t *syndrome, size_t syndrome_count,
                          const uint8_t *loss, size_t loss_count,
                          const uint8_t *handed, size_t handed_count);
@@ -154,20 +177,31 @@ uint64_t surface_verdict(size_t vertices,
 uint64_t surface_distance(size_t vertices,
                           const uint16_t *ends, size_t ends_count,
                           const uint8_t *marks, size_t marks_count,
+                          const uint8_t *open, size_t open_count,
                           uint8_t *shown, size_t shown_count);
 
 /* Fills the ends and marks of the torus of a side, 1 to 32: exactly 4 side² ends and 2 side² marks.
- * First value: the vertex count. */
+ * It has no open vertex, so a call that takes it is lent a zero for each. First value: the vertex
+ * count. */
 uint64_t surface_torus(uint32_t side,
                        uint16_t *ends, size_t ends_count,
                        uint8_t *marks, size_t marks_count);
 
-/* Reads a text into buffers of exactly SURFACE_ENDS, SURFACE_MARKS, SURFACE_SYNDROME and SURFACE_LOSS
- * elements, and leaves entries past the board's counts as they were.
+/* Fills the ends, marks and open bytes of the planar board of a side, 2 to 31: exactly two ends and a
+ * mark for each of its side² + (side - 1)² edges, and an open byte for each of its side (side + 1)
+ * vertices, 1 at both ends of each row and 0 between. First value: the vertex count. */
+uint64_t surface_planar(uint32_t side,
+                        uint16_t *ends, size_t ends_count,
+                        uint8_t *marks, size_t marks_count,
+                        uint8_t *open, size_t open_count);
+
+/* Reads a text into buffers of exactly SURFACE_ENDS, SURFACE_MARKS, SURFACE_OPEN, SURFACE_SYNDROME and
+ * SURFACE_LOSS elements, and leaves entries past the board's counts as they were.
  * First value: the vertex count. Second: the edge count. */
 uint64_t surface_read(const uint8_t *text, size_t text_count,
                       uint16_t *ends, size_t ends_count,
                       uint8_t *marks, size_t marks_count,
+                      uint8_t *open, size_t open_count,
                       uint8_t *syndrome, size_t syndrome_count,
                       uint8_t *loss, size_t loss_count);
 
@@ -176,6 +210,7 @@ uint64_t surface_read(const uint8_t *text, size_t text_count,
 uint64_t surface_write(size_t vertices,
                        const uint16_t *ends, size_t ends_count,
                        const uint8_t *marks, size_t marks_count,
+                       const uint8_t *open, size_t open_count,
                        const uint8_t *syndrome, size_t syndrome_count,
                        const uint8_t *loss, size_t loss_count,
                        uint8_t *text, size_t text_count);

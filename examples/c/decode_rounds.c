@@ -9,6 +9,7 @@ enum { VERTICES = 5, EDGES = 4 };
 
 static const uint16_t ends[2 * EDGES] = {0, 1, 1, 2, 2, 3, 3, 4};
 static const uint8_t marks[EDGES] = {0};
+static const uint8_t none_open[VERTICES] = {0};
 static const uint8_t loss[EDGES] = {0};
 
 static uint8_t support[EDGES], correction[EDGES];
@@ -27,13 +28,13 @@ static void print_key(const char *counted, uint64_t key)
 
 static void decode_rounds(const uint8_t syndrome[VERTICES])
 {
-    print_key("rounds", surface_decode_rounds(VERTICES, ends, 2 * EDGES, marks, EDGES, syndrome, VERTICES,
-                                              loss, EDGES, support, EDGES, correction, EDGES));
+    print_key("rounds", surface_decode_rounds(VERTICES, ends, 2 * EDGES, marks, EDGES, none_open, VERTICES, syndrome,
+                                              VERTICES, loss, EDGES, support, EDGES, correction, EDGES));
 }
 
 static void decode(const uint8_t syndrome[VERTICES])
 {
-    print_key("growths", surface_decode(VERTICES, ends, 2 * EDGES, marks, EDGES, syndrome, VERTICES,
+    print_key("growths", surface_decode(VERTICES, ends, 2 * EDGES, marks, EDGES, none_open, VERTICES, syndrome, VERTICES,
                                         loss, EDGES, support, EDGES, correction, EDGES));
 }
 

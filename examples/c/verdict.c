@@ -9,12 +9,13 @@ enum { VERTICES = 4, EDGES = 4 };
 
 static const uint16_t ends[2 * EDGES] = {0, 1, 1, 2, 2, 3, 3, 0};
 static const uint8_t marks[EDGES] = {0, 0, 0, 1};
+static const uint8_t none_open[VERTICES] = {0};
 static const uint8_t syndrome[VERTICES] = {1, 0, 0, 1};
 static const uint8_t loss[EDGES] = {0};
 
 static void judge(const char *set, const uint8_t handed[EDGES])
 {
-    uint64_t verdict = surface_verdict(VERTICES, ends, 2 * EDGES, marks, EDGES, syndrome, VERTICES,
+    uint64_t verdict = surface_verdict(VERTICES, ends, 2 * EDGES, marks, EDGES, none_open, VERTICES, syndrome, VERTICES,
                                        loss, EDGES, handed, EDGES);
     printf("%s: ", set);
     if (surface_refusal(verdict) != SURFACE_NOT_REFUSED) {

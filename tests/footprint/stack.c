@@ -25,39 +25,43 @@ static ucontext_t outside, inside;
 static size_t vertices, edges, text_count;
 static uint32_t side;
 static uint16_t ends[SURFACE_ENDS];
-static uint8_t marks[SURFACE_MARKS], syndrome[SURFACE_SYNDROME], loss[SURFACE_LOSS], handed[SURFACE_EDGES];
+static uint8_t marks[SURFACE_MARKS], open_bytes[SURFACE_OPEN], syndrome[SURFACE_SYNDROME], loss[SURFACE_LOSS], handed[SURFACE_EDGES];
 static uint8_t support[SURFACE_EDGES], correction[SURFACE_EDGES], shown[SURFACE_EDGES], text[SURFACE_TEXT];
 
 static uint64_t returned;
 
 static void decode(void)
 {
-    returned = surface_decode(vertices, ends, 2 * edges, marks, edges, syndrome, vertices, loss, edges, support, edges, correction, edges);
+    returned = surface_decode(vertices, ends, 2 * edges, marks, edges, open_bytes, vertices, syndrome, vertices, loss, edges, support, edges,
+                              correction, edges);
 }
 
 static void decode_rounds(void)
 {
-    returned = surface_decode_rounds(vertices, ends, 2 * edges, marks, edges, syndrome, vertices, loss, edges, support, edges, correction,
-                                     edges);
+    returned = surface_decode_rounds(vertices, ends, 2 * edges, marks, edges, open_bytes, vertices, syndrome, vertices, loss, edges, support,
+                                     edges, correction, edges);
 }
 
 static void verdict(void)
 {
-    returned = surface_verdict(vertices, ends, 2 * edges, marks, edges, syndrome, vertices, loss, edges, handed, edges);
+    returned = surface_verdict(vertices, ends, 2 * edges, marks, edges, open_bytes, vertices, syndrome, vertices, loss, edges, handed, edges);
 }
 
-static void distance(void) { returned = surface_distance(vertices, ends, 2 * edges, marks, edges, shown, edges); }
+static void distance(void) { returned = surface_distance(vertices, ends, 2 * edges, marks, edges, open_bytes, vertices, shown, edges); }
 
 static void torus(void) { returned = surface_torus(side, ends, 2 * edges, marks, edges); }
 
+static void planar(void) { returned = surface_planar(side, ends, 2 * edges, marks, edges, open_bytes, vertices); }
+
 static void write_text(void)
 {
-    returned = surface_write(vertices, ends, 2 * edges, marks, edges, syndrome, vertices, loss, edges, text, SURFACE_TEXT);
+    returned = surface_write(vertices, ends, 2 * edges, marks, edges, open_bytes, vertices, syndrome, vertices, loss, edges, text, SURFACE_TEXT);
 }
 
 static void read_text(void)
 {
-    returned = surface_read(text, text_count, ends, SURFACE_ENDS, marks, SURFACE_MARKS, syndrome, SURFACE_SYNDROME, loss, SURFACE_LOSS);
+    returned = surface_read(text, text_count, ends, SURFACE_ENDS, marks, SURFACE_MARKS, open_bytes, SURFACE_OPEN, syndrome, SURFACE_SYNDROME,
+                            loss, SURFACE_LOSS);
 }
 
 /* A call, how many bytes the header says that it needs, the most that it was seen to use, and which answers were seen. */
@@ -69,7 +73,7 @@ struct call {
     bool answered, refused;
 };
 
-enum { DECODE, DECODE_ROUNDS, VERDICT, DISTANCE, TORUS, READ, WRITE, CALLS };
+enum { DECODE, DECODE_ROUNDS, VERDICT, DISTANCE, TORUS, PLANAR, READ, WRITE, CALLS };
 
 static struct call calls[CALLS] = {
     {"surface_decode", decode, SURFACE_STACK_DECODE, 0, false, false},
@@ -77,6 +81,7 @@ static struct call calls[CALLS] = {
     {"surface_verdict", verdict, SURFACE_STACK_VERDICT, 0, false, false},
     {"surface_distance", distance, SURFACE_STACK_DISTANCE, 0, false, false},
     {"surface_torus", torus, SURFACE_STACK_TORUS, 0, false, false},
+    {"surface_planar", planar, SURFACE_STACK_PLANAR, 0, false, false},
     {"surface_read", read_text, SURFACE_STACK_READ, 0, false, false},
     {"surface_write", write_text, SURFACE_STACK_WRITE, 0, false, false},
 };
@@ -127,9 +132,10 @@ static void measure_board(void)
     measure(READ);
 }
 
-/* Every seventh vertex lit, but an even number of them; every fifth edge lost, the last one among them. */
+/* Every seventh vertex lit, but an even number of them; every fifth edge lost, the last one among them. No vertex is open. */
 static void light_and_lose(void)
 {
+    memset(open_bytes, 0, sizeof open_bytes);
     memset(syndrome, 0, sizeof syndrome);
     memset(loss, 0, sizeof loss);
     memset(handed, 0, sizeof handed);
@@ -152,6 +158,30 @@ static void largest_torus(void)
     measure(TORUS);
 }
 
+/* The planar board of the largest side, with an odd number of lit vertices. Then one of the open vertices is lit, and the last has an open
+ * byte above 1. */
+static void largest_planar(void)
+{
+    side = 31;
+    vertices = (size_t)side * (side + 1);
+    edges = (size_t)side * side + (size_t)(side - 1) * (side - 1);
+    measure(PLANAR);
+    memset(syndrome, 0, sizeof syndrome);
+    memset(loss, 0, sizeof loss);
+    memset(handed, 0, sizeof handed);
+    for (size_t v = 0; v < vertices; v += 6)
+        syndrome[v] = open_bytes[v] == 0;
+    for (size_t e = 0; e < edges; e += 5)
+        loss[e] = 1;
+    measure_board();
+    syndrome[vertices - 1] = 1;
+    measure_board();
+    open_bytes[vertices - 1] = 2;
+    measure_board();
+    side = 32;
+    measure(PLANAR);
+}
+
 /* As many vertices and edges as there may be: four rings through all vertices, with steps 1, 3, 5 and 7, and every mark. */
 static void most_edges(void)
 {
@@ -165,6 +195,9 @@ static void most_edges(void)
     }
     light_and_lose();
     measure_board();
+    for (size_t v = 1; v < vertices; v += 2) /* half of the vertices open, of which none is lit */
+        open_bytes[v] = syndrome[v] == 0;
+    measure_board();
 }
 
 /* A path through all vertices whose two ends alone are lit: the most growths that its vertices allow. No loop winds. */
@@ -177,17 +210,20 @@ static void long_path(void)
         ends[2 * e + 1] = (uint16_t)(e + 1);
         marks[e] = 0;
     }
+    memset(open_bytes, 0, sizeof open_bytes);
     memset(syndrome, 0, sizeof syndrome);
     memset(loss, 0, sizeof loss);
     syndrome[0] = syndrome[vertices - 1] = 1;
     measure_board();
     syndrome[0] = 0; /* no correction */
     measure_board();
+    open_bytes[0] = 1; /* the error may have run off there */
+    measure_board();
     marks[edges - 1] = 4;
     measure_board();
 }
 
-/* The torus of side 1, whose edges are loop edges; one vertex without an edge, and none. */
+/* The torus of side 1, whose edges are loop edges; one vertex without an edge, and none; the planar board of side 2. */
 static void smallest(void)
 {
     side = 1;
@@ -201,11 +237,17 @@ static void smallest(void)
     measure_board();
     vertices = 0;
     measure_board();
+    side = 2;
+    vertices = 6;
+    edges = 5;
+    measure(PLANAR);
+    measure_board();
 }
 
 int main(void)
 {
     largest_torus();
+    largest_planar();
     most_edges();
     long_path();
     smallest();

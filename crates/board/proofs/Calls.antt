@@ -8,13 +8,13 @@ use mathlib.Core.Option.{none}
 use native.Mathlib.Omega.{arith}
 use lib.ListN.{length}
 use Rattle.model.specs.Sums.{orElse}
-use Rattle.model.specs.Board.{Board, Sheet, Valid, ValidBytes, ValidSheet, edges, edgeLimit}
-use Rattle.model.specs.Refusals.{Rule, refusalOf, edgesOf, sized, sheetRules, handedRule, decodeRefusal, verdictRefusal, distanceRefusal}
+use Rattle.model.specs.Board.{Board, Sheet, Valid, ValidBytes, ValidSheet, edges, vertexLimit, edgeLimit}
+use Rattle.model.specs.Refusals.{Rule, refusalOf, edgesOf, sized, boardRules, plainRules, sheetRules, openRule, openRules, handedRule, decodeRefusal, verdictRefusal, distanceRefusal}
 use Rattle.model.proofs.Xor.{and-left, and-right, and-both}
 use Rattle.model.proofs.RuleLists.{refusal-append}
 use Rattle.board.proofs.Failures.{neither-fails, each-passes, passes-each}
-use Rattle.board.proofs.Passing.{bytes-say, say-bytes}
-use Rattle.board.proofs.Validity.{board-passes, sheet-passes, passes-sheet, long-enough, enough-long}
+use Rattle.board.proofs.Passing.{valid-ranged, ranged-valid, bytes-say, say-bytes}
+use Rattle.board.proofs.Validity.{board-passes, passes-board, plain-passes, passes-plain, plain-open, valid-plain, valid-open, sheet-passes, passes-sheet, long-enough, enough-long}
 
 -- a sheet's tests, and then others
 pub sheet-then : (X : Sheet) (others : Bool) (rs : List Rule)
@@ -34,14 +34,14 @@ decode-passes X support correction p =
     let w = sheet-passes X (sized support m && sized correction m) p in
     record {
       sheet = w .sheet;
-      support-long = long-enough (X .board) support (w .sheet .board) (and-left (sized support m) (sized correction m) (w .fit));
-      correction-long = long-enough (X .board) correction (w .sheet .board) (and-right (sized support m) (sized correction m) (w .fit));
+      support-long = long-enough (X .board) support (w .sheet .board .inside) (and-left (sized support m) (sized correction m) (w .fit));
+      correction-long = long-enough (X .board) correction (w .sheet .board .inside) (and-right (sized support m) (sized correction m) (w .fit));
     }
 
 pub passes-decode : (X : Sheet) (support correction : List ℕ) → ForDecoding X support correction → decodeRefusal X support correction ≡ none
 unfolding decodeRefusal
 passes-decode X support correction w =
-    let v = w .sheet .board in
+    let v = w .sheet .board .inside in
     passes-sheet X _
     (record {
       sheet = w .sheet;
@@ -57,41 +57,64 @@ pub record ForVerdict (X : Sheet) (handed : List ℕ) : Type 0 where
 abbrev pub handedSized : Sheet → List ℕ → Bool
 handedSized X handed = sized handed (edgesOf (X .board .ends))
 
+-- its tests: those of the sheet up to 8, then 9 and those of the open bytes
 pub verdict-tests : (X : Sheet) (handed : List ℕ)
-    → verdictRefusal X handed ≡ orElse (refusalOf (sheetRules X (handedSized X handed))) (refusalOf (handedRule handed ∷ []))
+    → verdictRefusal X handed ≡ orElse (refusalOf (plainRules X (handedSized X handed))) (refusalOf (handedRule handed ∷ openRules X))
 unfolding verdictRefusal
-verdict-tests X handed = sheet-then X (handedSized X handed) (handedRule handed ∷ [])
+verdict-tests X handed = refusal-append (plainRules X (handedSized X handed)) (handedRule handed ∷ openRules X)
 
--- what the sheet's check allows the last test to index
-pub sheet-allows : (X : Sheet) (handed : List ℕ) → refusalOf (sheetRules X (handedSized X handed)) ≡ none → length handed ≤ edgeLimit
-sheet-allows X handed p =
-    let w = sheet-passes X (handedSized X handed) p in
-    omega (arith, long-enough (X .board) handed (w .sheet .board) (w .fit), w .sheet .board .inside .edge-limit)
+-- what the tests up to 8 allow the test 9 to index
+pub handed-allowed : (X : Sheet) (handed : List ℕ) → refusalOf (plainRules X (handedSized X handed)) ≡ none → length handed ≤ edgeLimit
+handed-allowed X handed p =
+    let w = plain-passes X (handedSized X handed) p in
+    omega (arith, long-enough (X .board) handed (w .board .inside) (w .fit), w .board .inside .edge-limit)
 
 pub verdict-passes : (X : Sheet) (handed : List ℕ) → verdictRefusal X handed ≡ none → ForVerdict X handed
 verdict-passes X handed p =
-    let t = neither-fails (refusalOf (sheetRules X (handedSized X handed))) _ (sym (verdict-tests X handed) ∙ p) in
-    let w = sheet-passes X (handedSized X handed) (t .0) in
-    let e = each-passes (handedRule handed ∷ []) (t .1) in
+    let t = neither-fails (refusalOf (plainRules X (handedSized X handed))) _ (sym (verdict-tests X handed) ∙ p) in
+    let w = plain-passes X (handedSized X handed) (t .0) in
+    let e = each-passes (handedRule handed ∷ openRules X) (t .1) in
     record {
-      sheet = w .sheet;
-      bytes = bytes-say _ handed _ (long-enough (X .board) handed (w .sheet .board) (w .fit)) (e .0);
+      sheet = plain-open X _ w (passes-each (openRules X) (e .1));
+      bytes = bytes-say _ handed _ (long-enough (X .board) handed (w .board .inside) (w .fit)) (e .0);
     }
 
 pub passes-verdict : (X : Sheet) (handed : List ℕ) → ForVerdict X handed → verdictRefusal X handed ≡ none
 passes-verdict X handed w =
-    let long = enough-long (X .board) handed (w .sheet .board) (w .bytes .count) in
+    let long = enough-long (X .board) handed (w .sheet .board .inside) (w .bytes .count) in
     verdict-tests X handed
-    ∙ rw (passes-sheet X _ (record { sheet = w .sheet; fit = long }))
-    (passes-each (handedRule handed ∷ []) (say-bytes _ handed _ (w .bytes), tt))
+    ∙ rw (passes-plain X _ (valid-plain X _ (w .sheet) long))
+    (passes-each (handedRule handed ∷ openRules X) (say-bytes _ handed _ (w .bytes), each-passes (openRules X) (valid-open X (w .sheet))))
 
 -- The distance: a valid board and a buffer with a byte for each edge.
 pub record ForDistance (B : Board) (shown : List ℕ) : Type 0 where
   pub board : Valid B
   pub shown-long : length shown ≡ edges B
 
-pub distance-passes : (B : Board) (shown : List ℕ) → distanceRefusal B shown ≡ none → ForDistance B shown
+-- its tests: those of the board, then that of the open bytes
+pub distance-tests : (B : Board) (shown : List ℕ)
+    → distanceRefusal B shown ≡ orElse (refusalOf (boardRules B (sized shown (edgesOf (B .ends))))) (refusalOf (openRule (B .opened) ∷ []))
 unfolding distanceRefusal
+distance-tests B shown = refusal-append (boardRules B (sized shown (edgesOf (B .ends)))) (openRule (B .opened) ∷ [])
+
+-- what the board's tests allow the test 16 to index
+pub open-allowed : (B : Board) (others : Bool) → refusalOf (boardRules B others) ≡ none → length (B .opened) ≤ vertexLimit
+open-allowed B others p =
+    let w = board-passes B others p in
+    omega (arith, w .board .open-long, w .board .inside .vertex-limit)
+
+pub distance-passes : (B : Board) (shown : List ℕ) → distanceRefusal B shown ≡ none → ForDistance B shown
 distance-passes B shown p =
-    let w = board-passes B (sized shown (edgesOf (B .ends))) p in
-    record { board = w .board; shown-long = long-enough B shown (w .board) (w .fit) }
+    let t = neither-fails (refusalOf (boardRules B (sized shown (edgesOf (B .ends))))) _ (sym (distance-tests B shown) ∙ p) in
+    let w = board-passes B (sized shown (edgesOf (B .ends))) (t .0) in
+    let e = each-passes (openRule (B .opened) ∷ []) (t .1) in
+    record {
+      board = ranged-valid B (w .board) (bytes-say _ (B .opened) _ (w .board .open-long) (e .0));
+      shown-long = long-enough B shown (w .board .inside) (w .fit);
+    }
+
+pub passes-distance : (B : Board) (shown : List ℕ) → ForDistance B shown → distanceRefusal B shown ≡ none
+passes-distance B shown w =
+    distance-tests B shown
+    ∙ rw (passes-board B _ (record { board = valid-ranged B (w .board); fit = enough-long B shown (w .board .inside) (w .shown-long) }))
+    (passes-each (openRule (B .opened) ∷ []) (say-bytes _ (B .opened) _ (w .board .open-bytes), tt))

@@ -10,9 +10,9 @@ use lib.ListN.{length}
 use lib.Dec.{eqb, leb}
 use Rattle.model.specs.declared.refusal.Refusal.{Refusal}
 use Rattle.model.specs.declared.refusal.Refusal.the-variants.{VertexCount, EndCount, BufferLength, EndRange, MarkRange}
-use Rattle.model.specs.Sums.{Set, firstUpTo}
-use Rattle.model.specs.Board.{Board, Valid, ValidBytes, edges, firstEnd, vertexLimit, edgeLimit}
-use Rattle.model.specs.Refusals.{unless, refusedAt, firstPlace, outside, above, edgesOf, countRules, edgeRules}
+use Rattle.model.specs.Sums.{Set, ones, firstUpTo}
+use Rattle.model.specs.Board.{Board, Inside, Valid, ValidBytes, Unlit, Sheet, edges, firstEnd, mark, isOpen, vertexLimit, edgeLimit}
+use Rattle.model.specs.Refusals.{unless, refusedAt, firstPlace, outside, above, litOpen, sized, edgesOf, boardSized, countRules, edgeRules, openRules}
 use Rattle.model.proofs.Xor.{and-left, and-right, and-both}
 use Rattle.model.proofs.SumLaws.{first-none, none-first}
 use Rattle.board.proofs.Failures.{Each}
@@ -76,9 +76,25 @@ say-counts vertices ends fit k = (
   ),
 )
 
--- what the tests 4 and 6 say of a board whose counts have passed: it is valid
-pub edges-say : (B : Board) (fit : Bool) → Counted (B .vertices) (B .ends) fit → length (B .marks) ≡ edgesOf (B .ends) → Each (edgeRules B) → Valid B
-edges-say B fit k long t =
+-- a board is valid but perhaps for its open bytes, which have their length
+pub record Ranged (B : Board) : Type 0 where
+  pub some-vertex : 1 ≤ B .vertices
+  pub inside : Inside B
+  pub mark-in-range : (e : ℕ) → e < edges B → mark B e ≤ 3
+  pub open-long : length (B .opened) ≡ B .vertices
+
+pub valid-ranged : (B : Board) → Valid B → Ranged B
+valid-ranged B v =
+    record { some-vertex = v .some-vertex; inside = v .inside; mark-in-range = v .mark-in-range; open-long = v .open-bytes .count }
+
+pub ranged-valid : (B : Board) → Ranged B → ValidBytes (B .vertices) (B .opened) → Valid B
+ranged-valid B r open-bytes =
+    record { some-vertex = r .some-vertex; inside = r .inside; mark-in-range = r .mark-in-range; open-bytes = open-bytes }
+
+-- so say the tests 4 and 6 of a board whose counts have passed
+pub edges-say : (B : Board) (fit : Bool) → Counted (B .vertices) (B .ends) fit → boardSized B ≡ true → Each (edgeRules B) → Ranged B
+edges-say B fit k sizes t =
+    let long : length (B .marks) ≡ edgesOf (B .ends) = eqb-true _ _ (and-left (sized (B .marks) (edgesOf (B .ends))) _ sizes) in
     let inside = place-passes (edges B) (outside B) (λ e. EndRange (record { 0 = e })) (t .0) in
     let small = place-passes (edges B) (above 3 (B .marks)) (λ e. MarkRange (record { 0 = e })) (t .1 .0) in
     record {
@@ -92,15 +108,16 @@ edges-say B fit k long t =
             second-in-range = λ e h. leb-false _ _ (or-right (leb (B .vertices) (firstEnd B e)) _ (inside e h));
           };
       mark-in-range = λ e h. ltb-false _ _ (small e h);
+      open-long = eqb-true _ _ (and-right (sized (B .marks) (edgesOf (B .ends))) _ sizes);
     }
 
-pub say-edges : (B : Board) → Valid B → Each (edgeRules B)
+pub say-edges : (B : Board) → Ranged B → Each (edgeRules B)
 say-edges B v = (
   passes-place (edges B) (outside B) _ (λ e h. neither _ _ (lt-leb _ _ (v .inside .first-in-range e h)) (lt-leb _ _ (v .inside .second-in-range e h))),
   (passes-place (edges B) (above 3 (B .marks)) _ (λ e h. le-ltb _ _ (v .mark-in-range e h)), tt),
 )
 
--- what the tests 7, 8 and 9 say of their bytes
+-- what the tests 7, 8, 9 and 16 say of their bytes
 pub bytes-say : (n : ℕ) (l : List ℕ) (at : ℕ → Refusal) → length l ≡ n → firstPlace (length l) (above 1 l) at ≡ none → ValidBytes n l
 bytes-say n l at long p =
     record {
@@ -110,3 +127,24 @@ bytes-say n l at long p =
 
 pub say-bytes : (n : ℕ) (l : List ℕ) (at : ℕ → Refusal) → ValidBytes n l → firstPlace (length l) (above 1 l) at ≡ none
 say-bytes n l at k = passes-place (length l) (above 1 l) at (λ i h. le-ltb _ _ (k .each i (omega (arith, k .count))))
+
+-- what the tests 16 and 17 say of a sheet whose open bytes have their length
+pub open-say : (X : Sheet) → length (X .board .opened) ≡ X .board .vertices → Each (openRules X)
+    → ValidBytes (X .board .vertices) (X .board .opened) × Unlit (X .board) (ones (X .syndrome))
+open-say X long t = (
+  bytes-say _ (X .board .opened) _ long (t .0),
+  λ v h p. unlit v (place-passes (length (X .board .opened)) (litOpen (X .board .opened) (X .syndrome)) _ (t .1 .0) v (omega arith)) p,
+)
+  where
+    unlit : (v : ℕ) → litOpen (X .board .opened) (X .syndrome) v ≡ false → isOpen (X .board) v ≡ true → ones (X .syndrome) v ≡ false
+    unlit v p q = rw q at p
+
+pub say-open : (X : Sheet) → ValidBytes (X .board .vertices) (X .board .opened) → Unlit (X .board) (ones (X .syndrome)) → Each (openRules X)
+say-open X k unlit = (
+  say-bytes _ (X .board .opened) _ k,
+  (passes-place (length (X .board .opened)) (litOpen (X .board .opened) (X .syndrome)) _ (λ v h. none v (omega (arith, k .count)) (isOpen (X .board) v) refl), tt),
+)
+  where
+    none : (v : ℕ) → v < X .board .vertices → (t : Bool) → isOpen (X .board) v ≡ t → (t && ones (X .syndrome) v) ≡ false
+    none v h true p = unlit v h p
+    none v h false p = refl

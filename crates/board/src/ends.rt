@@ -5,7 +5,7 @@ use model::numbers::Edge;
 ghost use mathlib.Core.Path.{_≡_};
 ghost use Prim.Native.Nat.{_*_, _≤_};
 ghost use lib.ListN.{length};
-ghost use Rattle.model.specs.Board.{edgeLimit, unmarked};
+ghost use Rattle.model.specs.Board.{edgeLimit, plain};
 ghost use Rattle.model.specs.Lent.{before};
 ghost use Rattle.model.specs.Refusals.{edgesOf, outside};
 ghost use Rattle.model.specs.Sums.{firstUpTo};
@@ -14,7 +14,7 @@ ghost use Rattle.board.specs.Checks.{edgeFound};
 // Test 4: the first edge that has an end at or above the vertex count.
 pub fn first_outside(vertices: usize, ends: &[u16]) -> FoundEdge
     requires { ⌜ length (now ends) ≤ 2 * edgeLimit ⌝ }
-    ensures { λ r. ⌜ edgeFound r ≡ firstUpTo (edgesOf (before ends)) (outside (unmarked vertices 0 (before ends))) ⌝ }
+    ensures { λ r. ⌜ edgeFound r ≡ firstUpTo (edgesOf (before ends)) (outside (plain vertices 0 (before ends))) ⌝ }
 {
     let edges = ends.len() / 2;
     let mut e = 0;

@@ -5,5 +5,6 @@ pub mod copy;
 pub mod counts;
 pub mod ends;
 pub mod incidence;
+pub mod opened;
 pub mod outcome;
 pub mod tests;

@@ -15,8 +15,7 @@ use Rattle.model.specs.Sums.{Set, ones}
 use Rattle.model.specs.Board.{Board, unmarked, vertexLimit}
 use Rattle.model.specs.Components.{label, labels, within}
 use Rattle.model.specs.Growth.{full, clusters, odd, exposed, boundary, better, choiceUpTo, choice}
-use Rattle.model.proofs.SumLaws.{odd-cong, count-cong}
-use Rattle.model.proofs.CountLaws.{count-parity}
+use Rattle.model.proofs.SumLaws.{count-cong}
 use Rattle.model.proofs.Bits.{eqb-bit}
 use Rattle.theory.proofs.MarksAside.{unmarked-inside}
 use Rattle.decoder.proofs.TreeLabelLaws.{names-labels}
@@ -24,31 +23,21 @@ use Rattle.decoder.specs.TreeLabels.{Names}
 use Rattle.decoder.specs.Tallies.{Tallied, Tallies}
 use Rattle.decoder.specs.Exposures.{Exposures, exposedUpTo}
 use Rattle.decoder.proofs.Tallying.{tally-bound}
+use Rattle.decoder.proofs.OpenAside.{mirrors-open}
+use Rattle.decoder.proofs.OddCounting.{Agree, counts-odd}
+use Rattle.decoder.specs.OddCounts.{Counted, OddCounts}
 use Rattle.decoder.specs.Choices.{oddAt, sizeAt, lesser, leastUpTo, Sized, Choosable, chosenCluster}
 
 -- The counts
 
--- the labels agree below n
-pub record Agree (n : ℕ) (l l′ : List ℕ) : Type 0 where
-  pub at : (v : ℕ) → v < n → label l v ≡ label l′ v
-
--- the count of syndrome vertices tells which clusters are odd
-pub tally-odd : (B : Board) (l l′ syndrome counts : List ℕ) → Agree (B .vertices) l l′ → Tallies (B .vertices) l syndrome counts
-    → (a : ℕ) → a < vertexLimit → oddAt counts a ≡ odd B l′ (ones syndrome) a
-unfolding odd
-tally-odd B l l′ syndrome counts same t a h =
-    ap (λ c. eqb (c % 2) 1) (t .at a h)
-    ∙ count-parity (B .vertices) (λ v. ones syndrome v && within l a v)
-    ∙ odd-cong (B .vertices) (λ v. ones syndrome v && within l a v) (λ v. ones syndrome v && within l′ a v) (λ v i. ap (λ x. ones syndrome v && eqb x a) (same .at v i))
-
 -- the count of exposed vertices is the boundary size
-pub tally-boundary : (n m : ℕ) (ends s l l′ marks counts : List ℕ) → n ≤ vertexLimit → Agree n l l′ → Exposures m ends s marks → Tallies n l (take n marks) counts
-    → (a : ℕ) → a < vertexLimit → sizeAt counts a ≡ boundary (unmarked n m ends) s l′ a
+pub tally-boundary : (n m : ℕ) (ends opened s l l′ marks counts : List ℕ) → n ≤ vertexLimit → Agree n l l′ → Exposures m ends s marks → Tallies n l (take n marks) counts
+    → (a : ℕ) → a < vertexLimit → sizeAt counts a ≡ boundary (unmarked n m ends opened) s l′ a
 unfolding boundary exposed
-tally-boundary n m ends s l l′ marks counts few same e t a h =
+tally-boundary n m ends opened s l l′ marks counts few same e t a h =
     t .at a h ∙ count-cong n (λ v. ones (take n marks) v && within l a v) _ each
   where
-    each : (v : ℕ) → v < n → (ones (take n marks) v && within l a v) ≡ (within l′ a v && exposed (unmarked n m ends) s v)
+    each : (v : ℕ) → v < n → (ones (take n marks) v && within l a v) ≡ (within l′ a v && exposed (unmarked n m ends opened) s v)
     each v i =
         rw (getD-take n marks v 0 i, e .at v (omega arith), eqb-bit (exposedUpTo m ends s v), same .at v i, length-replicate {A = ℕ} m 0)
         (and-comm (exposedUpTo m ends s v) (within l′ a v))
@@ -113,22 +102,27 @@ taken-length {n} {marks = marks} few e = omega (arith, length-take n marks, e .l
 pub names-tallied : {n k : ℕ} {p labels : List ℕ} → n ≤ vertexLimit → n ≡ k → Names n p labels → Tallied k labels
 names-tallied few q names = record { few = omega arith; inside = λ v h. omega (arith, names .each v (omega arith) .below) }
 
+-- the open bytes are as many as the syndrome bytes
+pub names-counted : {n : ℕ} {p labels opened syndrome : List ℕ} → n ≤ vertexLimit → length opened ≡ n → length syndrome ≡ n → Names n p labels
+    → Counted labels opened syndrome
+names-counted few q q′ names = record { labelled = names-tallied few (sym q′) names; open-bytes = q ∙ sym q′ }
+
 pub tallies-sized : {n k : ℕ} {labels members sizes : List ℕ} → n ≤ vertexLimit → n ≡ k → Tallies k labels members sizes → Sized n sizes
 tallies-sized few q t = record { few = few; small = λ a h. omega (arith, tally-bound t a (omega arith)) }
 
-module _ (n : ℕ) (p ends syndrome s : List ℕ) (w : Choosable n p ends syndrome s) where
+module _ (n : ℕ) (p ends opened syndrome s : List ℕ) (w : Choosable n p ends opened syndrome s) where
   abbrev board : Board
-  board = unmarked n (length s) ends
+  board = unmarked n (length s) ends opened
 
   agrees : {labels : List ℕ} → Names n p labels → Agree n labels (clusters board s)
   unfolding clusters
-  agrees names = record { at = names-labels board (full s) (unmarked-inside (w .lent)) (w .mirrors) names }
+  agrees names = record { at = names-labels board (full s) (unmarked-inside (w .lent)) (mirrors-open n (length s) ends opened s (w .mirrors)) names }
 
-  pub chooses : {labels lit marks sizes : List ℕ} → Names n p labels → Tallies (length syndrome) labels syndrome lit → Exposures (length s) ends s marks
+  pub chooses : {labels lit marks sizes : List ℕ} → Names n p labels → OddCounts (length syndrome) labels opened syndrome lit → Exposures (length s) ends s marks
       → Tallies (length (take n marks)) labels (take n marks) sizes
-      → leastUpTo n (oddAt lit) (sizeAt sizes) ≡ chosenCluster n ends syndrome s
+      → leastUpTo n (oddAt lit) (sizeAt sizes) ≡ chosenCluster n ends opened syndrome s
   chooses {labels} {lit} {marks} {sizes} names odds e bounds =
       least-is-choice board s (clusters board s) (ones syndrome) lit sizes (w .lent .vertex-limit)
-      (tally-odd board labels (clusters board s) syndrome lit (agrees names) (subst (λ k. Tallies k labels syndrome lit) (w .lit) odds))
-      (tally-boundary n (length s) ends s labels (clusters board s) marks sizes (w .lent .vertex-limit) (agrees names) e
+      (counts-odd board labels (clusters board s) syndrome lit (agrees names) (subst (λ k. OddCounts k labels opened syndrome lit) (w .lit) odds))
+      (tally-boundary n (length s) ends opened s labels (clusters board s) marks sizes (w .lent .vertex-limit) (agrees names) e
       (subst (λ k. Tallies k labels (take n marks) sizes) (sym (taken-length (w .lent .vertex-limit) e)) bounds))

@@ -6,7 +6,7 @@ use mathlib.Core.List.{List}
 use mathlib.Core.Option.{none, some}
 use lib.ListN.{length}
 use lib.Dec.{eqb}
-use Rattle.model.specs.Sums.{Set, ones, bit, someUpTo}
+use Rattle.model.specs.Sums.{Set, ones, someUpTo}
 use Rattle.model.specs.Board.{Board, unmarked}
 use Rattle.model.specs.Components.{label, within}
 use Rattle.model.specs.Growth.{full, clusters, inOdd, weighted}
@@ -16,31 +16,29 @@ use Rattle.theory.proofs.GrowthRun.{OddPart}
 use Rattle.theory.proofs.WeightedGrowth.{odd-named, choice-odd}
 use Rattle.theory.proofs.MarksAside.{unmarked-inside}
 use Rattle.union_find.specs.Trees.{rootOf}
+use Rattle.decoder.proofs.OpenAside.{mirrors-open}
+use Rattle.decoder.proofs.Marking.{marks-cong}
 use Rattle.decoder.specs.declared.growing.Growing.{Growing}
 use Rattle.decoder.specs.TreeLabels.{RootedAt, tree, Marks}
 use Rattle.decoder.specs.Choices.{Choosable, chosenCluster}
 use Rattle.decoder.specs.Growing.{isSome, Follows}
 use Rattle.decoder.specs.OddClusters.{MarksOdd, FindsOdd}
 
--- only what is marked below n matters
-marks-cong : {n : ℕ} {R R′ : Set} {marks : List ℕ} → ((v : ℕ) → v < n → R v ≡ R′ v) → Marks n R marks → Marks n R′ marks
-marks-cong same w = record { long = w .long; at = λ v h. w .at v h ∙ ap bit (same v h); others = w .others }
-
-module _ (n : ℕ) (p ends syndrome s : List ℕ) (w : Choosable n p ends syndrome s) where
+module _ (n : ℕ) (p ends opened syndrome s : List ℕ) (w : Choosable n p ends opened syndrome s) where
   abbrev B : Board
-  B = unmarked n (length s) ends
+  B = unmarked n (length s) ends opened
 
   abbrev l : List ℕ
   l = clusters B s
 
   -- The chosen cluster
 
-  pub follows-none : chosenCluster n ends syndrome s ≡ none → (inside : List ℕ)
-      → Follows weighted n ends syndrome s (record { inside = inside; any = false })
+  pub follows-none : chosenCluster n ends opened syndrome s ≡ none → (inside : List ℕ)
+      → Follows weighted n ends opened syndrome s (record { inside = inside; any = false })
   unfolding weighted
   follows-none q inside = record { any = rw q; marks = λ R named. zero-one (cc) }
 
-  module _ (a : ℕ) (q : chosenCluster n ends syndrome s ≡ some a) where
+  module _ (a : ℕ) (q : chosenCluster n ends opened syndrome s ≡ some a) where
     odd-part : OddPart B l (ones syndrome) a
     odd-part = choice-odd B s l (ones syndrome) a q
 
@@ -51,7 +49,7 @@ module _ (n : ℕ) (p ends syndrome s : List ℕ) (w : Choosable n p ends syndro
     tree-is : (v : ℕ) → v < n → tree p (rootOf p a) v ≡ within l a v
     unfolding clusters
     tree-is v h =
-        w .mirrors .same v a h (odd-part .below)
+        mirrors-open n (length s) ends opened s (w .mirrors) .same v a h (odd-part .below)
         ∙ ap (eqb (label l v)) (odd-named B (full s) (ones syndrome) (unmarked-inside (w .lent)) a odd-part)
 
     named-next : weighted B (ones syndrome) s ≡ some (within l a)
@@ -59,7 +57,7 @@ module _ (n : ℕ) (p ends syndrome s : List ℕ) (w : Choosable n p ends syndro
     named-next = rw q
 
     pub follows-chosen : (inside : List ℕ) → Marks n (tree p (rootOf p a)) inside
-        → Follows weighted n ends syndrome s (record { inside = inside; any = true })
+        → Follows weighted n ends opened syndrome s (record { inside = inside; any = true })
     follows-chosen inside marked =
         record {
           any = ap isSome (sym named-next);
@@ -71,7 +69,7 @@ module _ (n : ℕ) (p ends syndrome s : List ℕ) (w : Choosable n p ends syndro
 
   -- All odd clusters
 
-  module _ (r : Growing) (found : FindsOdd n p syndrome r) where
+  module _ (r : Growing) (found : FindsOdd n p opened syndrome r) where
     abbrev R : Set
     R = inOdd B l (ones syndrome)
 
@@ -79,7 +77,7 @@ module _ (n : ℕ) (p ends syndrome s : List ℕ) (w : Choosable n p ends syndro
     unfolding clusters
     marked = found .each (length s) ends (full s) (w .lent) (w .mirrors)
 
-    pub follows-odd : Follows allOdd n ends syndrome s r
+    pub follows-odd : Follows allOdd n ends opened syndrome s r
     unfolding allOdd
     follows-odd =
         record {

@@ -8,7 +8,7 @@ use native.Mathlib.Nat.{le-refl}
 use native.Mathlib.Omega.{arith}
 use lib.ListN.{getD, length-replicate}
 use lib.Dec.{eqb}
-use Rattle.model.specs.Board.{unmarked}
+use Rattle.model.specs.Board.{plain}
 use Rattle.model.specs.Sums.{Set, someUpTo}
 use Rattle.model.specs.Components.{label}
 use Rattle.theory.proofs.Components.{labels-cong}
@@ -26,7 +26,7 @@ fuse-none b ends filled good =
     record {
       vertices = refl;
       good = good;
-      each = λ m F lent small mirrors. rw (labels-cong (unmarked (b .vertices) m ends) (withListed F 0 filled) F (λ e h. or-false (F e))) mirrors;
+      each = λ m F lent small mirrors. rw (labels-cong (plain (b .vertices) m ends) (withListed F 0 filled) F (λ e h. or-false (F e))) mirrors;
     }
 
 -- what fusing says of roots, said of labels
@@ -45,7 +45,7 @@ module _ (b : Book) (ends filled : List ℕ) (k : ℕ) (now : Book) (w : FusesLi
       }
 
   -- the set with one more listed edge
-  adds : (m : ℕ) (F : Set) → getD filled k 0 < m → Adds (unmarked (b .vertices) m ends) (withListed F k filled) (getD filled k 0) (withListed F (suc k) filled)
+  adds : (m : ℕ) (F : Set) → getD filled k 0 < m → Adds (plain (b .vertices) m ends) (withListed F k filled) (getD filled k 0) (withListed F (suc k) filled)
   unfolding someUpTo
   adds m F h = record { edge = omega (arith, length-replicate {A = ℕ} m 0); each = λ i l. sym (or-assoc (F i) (listed k filled i) (eqb (getD filled k 0) i)) }
 
@@ -64,6 +64,6 @@ module _ (b : Book) (ends filled : List ℕ) (k : ℕ) (now : Book) (w : FusesLi
                   f .one u v (omega (arith, w .vertices)) (omega (arith, w .vertices))
                   ∙ mirrored old u v x y hu hv a c
                   ∙ rw (p, q)
-                  (sym (added-edge (unmarked (b .vertices) m ends) (unmarked-inside lent) (withListed F k filled) (getD filled k 0) (withListed F (suc k) filled) (adds m F e) u v hu hv));
+                  (sym (added-edge (plain (b .vertices) m ends) (unmarked-inside lent) (withListed F k filled) (getD filled k 0) (withListed F (suc k) filled) (adds m F e) u v hu hv));
             };
       }

@@ -8,7 +8,7 @@ use native.Mathlib.Omega.{arith}
 use lib.ListN.{length, getD, length-replicate}
 use lib.Dec.{eqb}
 use Rattle.model.specs.Sums.{bit, countUpTo, ones, values}
-use Rattle.model.specs.Board.{Board, edgeLimit, firstEnd, secondEnd, unmarked}
+use Rattle.model.specs.Board.{Board, edgeLimit, firstEnd, secondEnd, plain}
 use Rattle.model.specs.Growth.{full, clusters, swell}
 use Rattle.model.proofs.Bits.{byte-bit}
 use Rattle.model.proofs.EndLaws.{within-limit}
@@ -21,7 +21,7 @@ use Rattle.decoder.specs.Books.{withListed, Fusable, FusesListed, Growab
 
 module _ (b : Book) (ends inside s : List ℕ) (g : Growable b ends inside s) where
   abbrev B : Board
-  B = unmarked (b .vertices) (length s) ends
+  B = plain (b .vertices) (length s) ends
 
   pub raisable : (filled : List ℕ) → length filled ≡ edgeLimit → Raisable ends inside s filled
   raisable filled room = record { lent = within-limit (g .lent); marks = g .marks; supports = g .supports; room = room }

@@ -7,6 +7,9 @@ pub mod Gathering
 pub mod TreeNames
 pub mod Marking
 pub mod TreeLabelLaws
+pub mod OpenAside
+pub mod OddCounting
+pub mod EndMarking
 pub mod ChoiceLaws
 pub mod OddMarking
 pub mod Fusing

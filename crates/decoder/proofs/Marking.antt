@@ -9,7 +9,7 @@ use native.Mathlib.Omega.{arith}
 use lib.ListN.{set, replicate, length-set, length-replicate}
 use lib.Seq.{getD-set-same, getD-set-other}
 use lib.Dec.{eqb}
-use Rattle.model.specs.Sums.{Set, ones}
+use Rattle.model.specs.Sums.{Set, bit, ones}
 use Rattle.model.specs.Board.{vertexLimit}
 use Rattle.model.proofs.Bits.{bit-bound, eqb-bit}
 use Rattle.model.proofs.ListLaws.{zero-everywhere}
@@ -24,6 +24,10 @@ mark-none R n p =
       at = λ u h. absurd (not-suc-le-zero h);
       others = λ u h. zero-everywhere n u;
     }
+
+-- only what is marked below n matters
+pub marks-cong : {n : ℕ} {R R′ : Set} {marks : List ℕ} → ((v : ℕ) → v < n → R v ≡ R′ v) → Marks n R marks → Marks n R′ marks
+marks-cong same w = record { long = w .long; at = λ v h. w .at v h ∙ ap bit (same v h); others = w .others }
 
 module _ (k : ℕ) (R : Set) (marks : List ℕ) (w : Marks k R marks) where
   pub mark-inside : k < vertexLimit → R k ≡ true → Marks (suc k) R (set marks k 1)

@@ -17,7 +17,7 @@ pub policy-feeds : (x : Growth) (B : Board) → Inside B → (S : Set) → Feeds
 policy-feeds Weighted B r S = weighted-feeds B S
 policy-feeds Rounds B r S = rounds-feed B r S
 
-pub policy-aside : (x : Growth) (n : ℕ) (ends marks marks′ : List ℕ) → length marks ≡ length marks′ → (S : Set) (s : List ℕ)
-    → policyOf x (boardOf n ends marks) S s ≡ policyOf x (boardOf n ends marks′) S s
-policy-aside Weighted n ends marks marks′ same = weighted-aside n ends marks marks′ same
-policy-aside Rounds n ends marks marks′ same = rounds-aside n ends marks marks′ same
+pub policy-aside : (x : Growth) (n : ℕ) (ends marks marks′ opened : List ℕ) → length marks ≡ length marks′ → (S : Set) (s : List ℕ)
+    → policyOf x (boardOf n ends marks opened) S s ≡ policyOf x (boardOf n ends marks′ opened) S s
+policy-aside Weighted n ends marks marks′ opened same = weighted-aside n ends marks marks′ opened same
+policy-aside Rounds n ends marks marks′ opened same = rounds-aside n ends marks marks′ opened same

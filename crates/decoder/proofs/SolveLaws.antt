@@ -9,7 +9,7 @@ use lib.ListN.{length, drop, replicate, drop-of-length-le}
 use lib.Seq.{take-at}
 use Rattle.model.specs.declared.refusal.Refusal.{Refusal}
 use Rattle.model.specs.Sums.{Set, bit, countUpTo, ones, bytes}
-use Rattle.model.specs.Board.{Board, Sheet, EndsWithin, boardOf, sheetOf, edgeLimit}
+use Rattle.model.specs.Board.{Board, Sheet, EndsWithin, boardOf, sheetOf, unmarked, edgeLimit}
 use Rattle.model.specs.Winding.{size}
 use Rattle.model.specs.Growth.{Policy}
 use Rattle.model.specs.Decoding.{grownBy, peeled}
@@ -33,9 +33,9 @@ whole : (l rest old : List ℕ) (m : ℕ) → length l ≡ m → length old ≡ 
 whole l rest old m long same =
     rw (take-at l rest m long, drop-of-length-le old {i = m} (omega arith)) (append-nil l)
 
-module _ (n : ℕ) (ends marks syndrome loss support written : List ℕ) where
+module _ (n : ℕ) (ends marks opened syndrome loss support written : List ℕ) where
   abbrev board : Board
-  board = boardOf n ends marks
+  board = boardOf n ends marks opened
 
   abbrev sheet : Sheet
   sheet = sheetOf board syndrome loss
@@ -63,11 +63,13 @@ module _ (n : ℕ) (ends marks syndrome loss support written : List ℕ) where
     few = omega (arith, lost-long, valid .sheet .board .inside .edge-limit)
 
     -- the arrays' fronts take a key
-    pub keyable : (s k : List ℕ) → length s ≡ length loss → length k ≡ length loss → Keyable n ends syndrome loss s k
+    pub keyable : (s k : List ℕ) → length s ≡ length loss → length k ≡ length loss → Keyable n ends opened syndrome loss s k
     keyable s k long-s long-k =
         record {
           lent = subst (λ m. EndsWithin n m ends) (sym lost-long) (valid .sheet .board .inside);
+          open-bytes = valid .sheet .board .open-bytes .count;
           lit = valid .sheet .syndrome;
+          unlit = valid .sheet .unlit;
           support-long = long-s;
           correction-long = long-k;
         }
@@ -88,40 +90,40 @@ module _ (n : ℕ) (ends marks syndrome loss support written : List ℕ) where
       abbrev policy : Board → Set → Policy
       policy = policyOf x
 
-      alike : (s : List ℕ) → policy board (ones syndrome) s ≡ policy (boardOf n ends (replicate (length loss) 0)) (ones syndrome) s
-      alike s = policy-aside x n ends marks _ same (ones syndrome) s
+      alike : (s : List ℕ) → policy board (ones syndrome) s ≡ policy (unmarked n (length loss) ends opened) (ones syndrome) s
+      alike s = policy-aside x n ends marks _ opened same (ones syndrome) s
 
-      grown-is : grownBy policy (bare n ends syndrome loss) ≡ grownBy policy sheet
-      grown-is = sym (key-aside n ends marks _ same syndrome loss policy alike)
+      grown-is : grownBy policy (bare n ends opened syndrome loss) ≡ grownBy policy sheet
+      grown-is = sym (key-aside n ends marks _ opened same syndrome loss policy alike)
 
-      peeled-is : peeled (bare n ends syndrome loss) (grownBy policy (bare n ends syndrome loss)) ≡ peeled sheet (grownBy policy sheet)
-      peeled-is = sym (peeled-aside n ends marks _ same syndrome loss policy alike)
+      peeled-is : peeled (bare n ends opened syndrome loss) (grownBy policy (bare n ends opened syndrome loss)) ≡ peeled sheet (grownBy policy sheet)
+      peeled-is = sym (peeled-aside n ends marks _ opened same syndrome loss policy alike)
 
-      size-is : size (boardOf n ends (replicate (length loss) 0)) (peeled (bare n ends syndrome loss) (grownBy policy (bare n ends syndrome loss)))
+      size-is : size (unmarked n (length loss) ends opened) (peeled (bare n ends opened syndrome loss) (grownBy policy (bare n ends opened syndrome loss)))
           ≡ size board (peeled sheet (grownBy policy sheet))
       size-is =
           ap (λ D. countUpTo (length {A = ℕ} (replicate (length loss) 0)) D) peeled-is
           ∙ ap (λ k. countUpTo k (peeled sheet (grownBy policy sheet))) (sym same)
 
-      solved-is : solvedOrNone policy (bare n ends syndrome loss) ≡ solvedOrNone policy sheet
+      solved-is : solvedOrNone policy (bare n ends opened syndrome loss) ≡ solvedOrNone policy sheet
       unfolding solvedOrNone
       solved-is =
-          ap (λ a. answer (oddPartTest (bare n ends syndrome loss)) Refused a) (ap₂ Key (ap (λ w. w .count) grown-is) size-is)
+          ap (λ a. answer (oddPartTest (bare n ends opened syndrome loss)) Refused a) (ap₂ Key (ap (λ w. w .count) grown-is) size-is)
           ∙ ap (λ o. answer (refusedAt o noneAt) Refused (Key (grownBy policy sheet .count) (size board (peeled sheet (grownBy policy sheet)))))
-          (sym (smallest-aside n ends marks _ same (ones syndrome)))
+          (sym (smallest-aside n ends marks _ opened same (ones syndrome)))
 
-      result-is : {r : Solved} → r ≡ solvedOrNone policy (bare n ends syndrome loss) → r ≡ answer refusal Refused (solvedOrNone policy sheet)
+      result-is : {r : Solved} → r ≡ solvedOrNone policy (bare n ends opened syndrome loss) → r ≡ answer refusal Refused (solvedOrNone policy sheet)
       result-is p = p ∙ solved-is ∙ ap (λ t. answer t Refused (solvedOrNone policy sheet)) passed
 
-      supports-are : grownBy policy (bare n ends syndrome loss) .support ≡ grownBy policy sheet .support
+      supports-are : grownBy policy (bare n ends opened syndrome loss) .support ≡ grownBy policy sheet .support
       supports-are = ap (λ w. w .support) grown-is
 
-      correction-is : bytes (length {A = ℕ} (replicate (length loss) 0)) (peeled (bare n ends syndrome loss) (grownBy policy (bare n ends syndrome loss)))
+      correction-is : bytes (length {A = ℕ} (replicate (length loss) 0)) (peeled (bare n ends opened syndrome loss) (grownBy policy (bare n ends opened syndrome loss)))
           ≡ bytes (length marks) (peeled sheet (grownBy policy sheet))
       correction-is = rw (same, peeled-is)
 
       -- whatever is answered, the fronts keep their lengths
-      fronts-long : (r : Solved) (s k s′ k′ : List ℕ) → length s ≡ length loss → length k ≡ length loss → Keys policy (bare n ends syndrome loss) s k r s′ k′
+      fronts-long : (r : Solved) (s k s′ k′ : List ℕ) → length s ≡ length loss → length k ≡ length loss → Keys policy (bare n ends opened syndrome loss) s k r s′ k′
           → (length s′ ≡ length loss) × (length k′ ≡ length loss)
       fronts-long (Key g e) s k s′ k′ long-s long-k w = (
         ap length (w .support-bytes ∙ supports-are)
@@ -132,7 +134,7 @@ module _ (n : ℕ) (ends marks syndrome loss support written : List ℕ) where
       fronts-long (Refused x) s k s′ k′ long-s long-k w = (ap length (w .support-bytes) ∙ long-s, ap length (w .correction-bytes) ∙ long-k)
 
       -- so the arrays are whole
-      pub arrays-long : (r : Solved) (s k s′ k′ : List ℕ) → length s ≡ length loss → length k ≡ length loss → Keys policy (bare n ends syndrome loss) s k r s′ k′
+      pub arrays-long : (r : Solved) (s k s′ k′ : List ℕ) → length s ≡ length loss → length k ≡ length loss → Keys policy (bare n ends opened syndrome loss) s k r s′ k′
           → (length (s′ ++ drop (length loss) (replicate edgeLimit 0)) ≡ edgeLimit) × (length (k′ ++ drop (length loss) (replicate edgeLimit 0)) ≡ edgeLimit)
       arrays-long r s k s′ k′ long-s long-k w =
           let long = fronts-long r s k s′ k′ long-s long-k w in
@@ -140,7 +142,7 @@ module _ (n : ℕ) (ends marks syndrome loss support written : List ℕ) where
 
       -- a key is copied whole, and of number 10 nothing
       pub solves : (r : Solved) (s k s′ k′ rest rest′ : List ℕ) (count : ℕ) → length s ≡ length loss → length k ≡ length loss
-          → Keys policy (bare n ends syndrome loss) s k r s′ k′ → count ≡ writtenBytes r (length loss) → Solves policy sheet support written r (copied (s′ ++ rest) support count) (copied (k′ ++ rest′) written count)
+          → Keys policy (bare n ends opened syndrome loss) s k r s′ k′ → count ≡ writtenBytes r (length loss) → Solves policy sheet support written r (copied (s′ ++ rest) support count) (copied (k′ ++ rest′) written count)
       solves (Key g e) s k s′ k′ rest rest′ count long-s long-k w p =
           let grown = w .support-bytes ∙ supports-are in
           let peeled-bytes = w .correction-bytes ∙ correction-is in

@@ -2,13 +2,13 @@
 use Prim.Native.Nat.{ℕ}
 use mathlib.Core.Path.{_≡_, refl, sym, ap, _∙_}
 use mathlib.Core.Bool.{true, false, false≢true}
-use mathlib.Core.List.{List}
+use mathlib.Core.List.{List, []}
 use mathlib.Core.Option.{Option, none, some}
 use lib.ListN.{length}
 use Rattle.model.specs.Sums.{Set, ones}
 use Rattle.model.specs.Board.{Board, unmarked}
 use Rattle.model.specs.Growth.{Policy}
-use Rattle.theory.proofs.MarksAside.{unmarked-inside}
+use Rattle.theory.proofs.MarksAside.{unmarked-inside, swell-aside}
 use Rattle.theory.proofs.Supports.{swell-cong}
 use Rattle.decoder.specs.declared.book.Book.{Book}
 use Rattle.decoder.specs.declared.book.Grown.{Grown}
@@ -18,22 +18,22 @@ use Rattle.decoder.specs.Books.{Growable, Grows}
 use Rattle.decoder.specs.Runs.{Steppable, Steps}
 use Rattle.decoder.proofs.Marking.{marks-small, marks-are}
 
-module _ {b : Book} {ends syndrome s : List ℕ} (w : Steppable (b .vertices) (length s) b ends syndrome s) where
+module _ {b : Book} {ends opened syndrome s : List ℕ} (w : Steppable (b .vertices) (length s) b ends opened syndrome s) where
   abbrev n : ℕ
   n = b .vertices
 
   abbrev B : Board
-  B = unmarked n (length s) ends
+  B = unmarked n (length s) ends opened
 
-  module _ (policy : Board → Set → Policy) (next : Growing) (f : Follows policy n ends syndrome s next) where
+  module _ (policy : Board → Set → Policy) (next : Growing) (f : Follows policy n ends opened syndrome s next) where
     abbrev now-next : Option Set
-    now-next = nextOn policy n (length s) ends syndrome s
+    now-next = nextOn policy n (length s) ends opened syndrome s
 
     -- nothing grows
-    pub step-over : next .any ≡ false → Steps policy n (length s) ends syndrome s (record { book = b; grew = false }) s
+    pub step-over : next .any ≡ false → Steps policy n (length s) ends opened syndrome s (record { book = b; grew = false }) s
     step-over p = go now-next refl
       where
-        go : (o : Option Set) → now-next ≡ o → Steps policy n (length s) ends syndrome s (record { book = b; grew = false }) s
+        go : (o : Option Set) → now-next ≡ o → Steps policy n (length s) ends opened syndrome s (record { book = b; grew = false }) s
         go none q = record { grew = ap isSome (sym q); supports = rw q; book = w .book }
         go (some R) q = absurd (false≢true (sym p ∙ f .any ∙ ap isSome q))
 
@@ -61,13 +61,14 @@ module _ {b : Book} {ends syndrome s : List ℕ} (w : Steppable (b .vertices) (l
           }
 
       pub step-made : (r : Grown) (s′ : List ℕ) → Grows b ends (next .inside) s r s′
-          → Steps policy n (length s) ends syndrome s (record { book = r .book; grew = true }) s′
+          → Steps policy n (length s) ends opened syndrome s (record { book = r .book; grew = true }) s′
       step-made r s′ g =
           record {
             grew = ap isSome (sym (named .is));
             supports =
                 rw (named .is)
                 (g .supports
+                ∙ swell-aside n ends _ _ [] opened refl s (ones (next .inside))
                 ∙ swell-cong B (unmarked-inside (w .lent)) s (ones (next .inside)) (named .at)
                 (marks-are n (named .at) (next .inside) (f .marks (named .at) (named .is))));
             book = g .book;

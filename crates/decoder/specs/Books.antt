@@ -6,7 +6,7 @@ use mathlib.Core.Bool.{Bool, not, _&&_, _||_}
 use mathlib.Core.List.{List}
 use lib.ListN.{length, getD}
 use Rattle.model.specs.Sums.{Set, countUpTo, ones}
-use Rattle.model.specs.Board.{edgeLimit, unmarked, EndsWithin}
+use Rattle.model.specs.Board.{edgeLimit, plain, EndsWithin}
 use Rattle.model.specs.Components.{labels}
 use Rattle.model.specs.Growth.{full, clusters, swell}
 use Rattle.model.specs.declared.numbers.Vertex.{Vertex}
@@ -86,8 +86,8 @@ pub record FusesListed (b : Book) (ends filled : List ℕ) (k : ℕ) (r : Book) 
   pub good : Good r
   pub each :
       (m : ℕ) (F : Set) → EndsWithin (b .vertices) m ends → ((i : ℕ) → i < k → getD filled i 0 < m) →
-      Mirrors (b .vertices) (b .parent) (labels (unmarked (b .vertices) m ends) F) →
-      Mirrors (b .vertices) (r .parent) (labels (unmarked (b .vertices) m ends) (withListed F k filled))
+      Mirrors (b .vertices) (b .parent) (labels (plain (b .vertices) m ends) F) →
+      Mirrors (b .vertices) (r .parent) (labels (plain (b .vertices) m ends) (withListed F k filled))
 
 -- the book is that of the clusters of the supports, and each vertex has a mark
 pub record Growable (b : Book) (ends inside s : List ℕ) : Type 0 where
@@ -95,10 +95,10 @@ pub record Growable (b : Book) (ends inside s : List ℕ) : Type 0 where
   pub supports : Supports s
   pub marks : Marked inside
   pub good : Good b
-  pub mirrors : Mirrors (b .vertices) (b .parent) (clusters (unmarked (b .vertices) (length s) ends) s)
+  pub mirrors : Mirrors (b .vertices) (b .parent) (clusters (plain (b .vertices) (length s) ends) s)
 
 -- document 01's step 4: the supports after the marked vertices have grown, the book of their clusters, and how many edges became full
 pub record Grows (b : Book) (ends inside s : List ℕ) (r : Grown) (s′ : List ℕ) : Type 0 where
-  pub supports : s′ ≡ swell (unmarked (b .vertices) (length s) ends) s (ones inside)
-  pub book : Holds (b .vertices) (r .book) (clusters (unmarked (b .vertices) (length s) ends) s′)
+  pub supports : s′ ≡ swell (plain (b .vertices) (length s) ends) s (ones inside)
+  pub book : Holds (b .vertices) (r .book) (clusters (plain (b .vertices) (length s) ends) s′)
   pub filled : r .filled ≡ countUpTo (length s) (λ e. full s′ e && not (full s e))

@@ -10,7 +10,7 @@ use lib.Dec.{eqb, ltb}
 use mathlib.Core.Path.{_≡_}
 use Rattle.union_find.specs.Trees.{Rooted}
 use Rattle.model.specs.Sums.{Set, ones}
-use Rattle.model.specs.Board.{vertexLimit, unmarked, EndsWithin}
+use Rattle.model.specs.Board.{vertexLimit, unmarked, plain, EndsWithin}
 use Rattle.model.specs.Growth.{clusters, choice}
 use Rattle.union_find.specs.Joining.{Mirrors}
 use Rattle.decoder.specs.declared.choice.Chosen.{Chosen}
@@ -43,14 +43,15 @@ pub record Sized (n : ℕ) (sizes : List ℕ) : Type 0 where
   pub small : (a : ℕ) → a < n → sizeAt sizes a ≤ vertexLimit
 
 -- the trees are the clusters of the supports on the lent board
-pub record Choosable (n : ℕ) (parent ends syndrome s : List ℕ) : Type 0 where
+pub record Choosable (n : ℕ) (parent ends opened syndrome s : List ℕ) : Type 0 where
   pub rooted : Rooted n parent
   pub lent : EndsWithin n (length s) ends
+  pub open-bytes : length opened ≡ n
   pub lit : length syndrome ≡ n
-  pub mirrors : Mirrors n parent (clusters (unmarked n (length s) ends) s)
+  pub mirrors : Mirrors n parent (clusters (plain n (length s) ends) s)
 
 -- document 01's choice on the lent board
-abbrev pub chosenCluster : ℕ → List ℕ → List ℕ → List ℕ → Option ℕ
-chosenCluster n ends syndrome s =
-    let B = unmarked n (length s) ends in
+abbrev pub chosenCluster : ℕ → List ℕ → List ℕ → List ℕ → List ℕ → Option ℕ
+chosenCluster n ends opened syndrome s =
+    let B = unmarked n (length s) ends opened in
     choice B s (clusters B s) (ones syndrome)

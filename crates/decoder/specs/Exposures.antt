@@ -6,13 +6,13 @@ use mathlib.Core.Bool.{Bool, not, _&&_}
 use mathlib.Core.List.{List}
 use lib.ListN.{length, getD}
 use Rattle.model.specs.Sums.{bit, someUpTo}
-use Rattle.model.specs.Board.{vertexLimit, unmarked}
+use Rattle.model.specs.Board.{vertexLimit, plain}
 use Rattle.model.specs.Syndrome.{touches}
 use Rattle.model.specs.Growth.{full}
 
 -- v touches an edge below k that isn't full; at k = m this is `exposed`
 abbrev pub exposedUpTo : ℕ → List ℕ → List ℕ → ℕ → Bool
-exposedUpTo k ends s v = someUpTo k (λ e. touches (unmarked vertexLimit 0 ends) e v && not (full s e))
+exposedUpTo k ends s v = someUpTo k (λ e. touches (plain vertexLimit 0 ends) e v && not (full s e))
 
 -- each entry is 1 where its vertex touches an edge below k that isn't full, else 0
 pub record Exposures (k : ℕ) (ends s l : List ℕ) : Type 0 where

@@ -21,14 +21,14 @@ policyOf Weighted = weighted
 policyOf Rounds = allOdd
 
 -- the vertices that grow next on the lent board
-abbrev pub nextOn : (Board → Set → Policy) → ℕ → ℕ → List ℕ → List ℕ → Policy
-nextOn policy n m ends syndrome = policy (unmarked n m ends) (ones syndrome)
+abbrev pub nextOn : (Board → Set → Policy) → ℕ → ℕ → List ℕ → List ℕ → List ℕ → Policy
+nextOn policy n m ends opened syndrome = policy (unmarked n m ends opened) (ones syndrome)
 
 abbrev pub isSome : {A : Type 0} → Option A → Bool
 isSome none = false
 isSome (some a) = true
 
 -- it is said whether there are any, and they are marked
-pub record Follows (policy : Board → Set → Policy) (n : ℕ) (ends syndrome s : List ℕ) (r : Growing) : Type 0 where
-  pub any : r .any ≡ isSome (nextOn policy n (length s) ends syndrome s)
-  pub marks : (R : Set) → nextOn policy n (length s) ends syndrome s ≡ some R → Marks n R (r .inside)
+pub record Follows (policy : Board → Set → Policy) (n : ℕ) (ends opened syndrome s : List ℕ) (r : Growing) : Type 0 where
+  pub any : r .any ≡ isSome (nextOn policy n (length s) ends opened syndrome s)
+  pub marks : (R : Set) → nextOn policy n (length s) ends opened syndrome s ≡ some R → Marks n R (r .inside)

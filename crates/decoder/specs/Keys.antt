@@ -4,8 +4,8 @@ use Prim.Native.Nat.{ℕ}
 use mathlib.Core.Path.{_≡_}
 use mathlib.Core.List.{List}
 use lib.ListN.{length}
-use Rattle.model.specs.Sums.{Set, bytes}
-use Rattle.model.specs.Board.{Board, Sheet, sheetOf, edges, EndsWithin, ValidBytes, unmarked}
+use Rattle.model.specs.Sums.{Set, ones, bytes}
+use Rattle.model.specs.Board.{Board, Sheet, sheetOf, edges, EndsWithin, ValidBytes, Unlit, unmarked}
 use Rattle.model.specs.Winding.{size}
 use Rattle.model.specs.Growth.{Policy}
 use Rattle.model.specs.Decoding.{grownBy, peeled}
@@ -15,13 +15,16 @@ use Rattle.decoder.specs.declared.key.Solved.{Solved}
 use Rattle.decoder.specs.declared.key.Solved.the-variants.{Key, Refused}
 
 -- the sheet without its marks
-abbrev pub bare : ℕ → List ℕ → List ℕ → List ℕ → Sheet
-bare n ends syndrome loss = sheetOf (unmarked n (length loss) ends) syndrome loss
+abbrev pub bare : ℕ → List ℕ → List ℕ → List ℕ → List ℕ → Sheet
+bare n ends opened syndrome loss = sheetOf (unmarked n (length loss) ends opened) syndrome loss
 
--- the ends lie within the board, each vertex has a syndrome byte, and both buffers have a byte for each edge
-pub record Keyable (n : ℕ) (ends syndrome loss support correction : List ℕ) : Type 0 where
+-- the ends lie within the board, each vertex has an open byte and a syndrome byte, no open vertex is lit, and both buffers have a byte for
+-- each edge
+pub record Keyable (n : ℕ) (ends opened syndrome loss support correction : List ℕ) : Type 0 where
   pub lent : EndsWithin n (length loss) ends
+  pub open-bytes : length opened ≡ n
   pub lit : ValidBytes n syndrome
+  pub unlit : Unlit (unmarked n (length loss) ends opened) (ones syndrome)
   pub support-long : length support ≡ length loss
   pub correction-long : length correction ≡ length loss
 

@@ -3,6 +3,8 @@ pub mod Exposures
 pub mod TreeLabels
 pub mod Choices
 pub mod Growing
+pub mod OddCounts
+pub mod OddEnds
 pub mod OddClusters
 pub mod Gains
 pub mod Books

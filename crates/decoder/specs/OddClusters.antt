@@ -5,7 +5,7 @@ use mathlib.Core.Path.{_≡_}
 use mathlib.Core.List.{List}
 use lib.ListN.{length}
 use Rattle.model.specs.Sums.{Set, ones, someUpTo}
-use Rattle.model.specs.Board.{unmarked, EndsWithin}
+use Rattle.model.specs.Board.{unmarked, plain, EndsWithin}
 use Rattle.model.specs.Components.{label, labels}
 use Rattle.model.specs.Growth.{inOdd}
 use Rattle.union_find.specs.Trees.{Rooted}
@@ -23,13 +23,14 @@ pub record MarksOdd (k : ℕ) (R : Set) (r : Growing) : Type 0 where
   pub marks : Marks k R (r .inside)
   pub any : r .any ≡ someUpTo k R
 
--- each vertex has a root and a syndrome byte
-pub record Countable (n : ℕ) (parent syndrome : List ℕ) : Type 0 where
+-- each vertex has a root, an open byte and a syndrome byte
+pub record Countable (n : ℕ) (parent opened syndrome : List ℕ) : Type 0 where
   pub rooted : Rooted n parent
+  pub open-bytes : length opened ≡ n
   pub lit : length syndrome ≡ n
 
 -- whatever parts the trees are, those that are odd are found
-pub record FindsOdd (n : ℕ) (parent syndrome : List ℕ) (r : Growing) : Type 0 where
+pub record FindsOdd (n : ℕ) (parent opened syndrome : List ℕ) (r : Growing) : Type 0 where
   pub each :
-      (m : ℕ) (ends : List ℕ) (F : Set) → EndsWithin n m ends → Mirrors n parent (labels (unmarked n m ends) F) →
-      MarksOdd n (inOdd (unmarked n m ends) (labels (unmarked n m ends) F) (ones syndrome)) r
+      (m : ℕ) (ends : List ℕ) (F : Set) → EndsWithin n m ends → Mirrors n parent (labels (plain n m ends) F) →
+      MarksOdd n (inOdd (unmarked n m ends opened) (labels (unmarked n m ends opened) F) (ones syndrome)) r

@@ -12,7 +12,7 @@ use union_find::root_of;
 ghost use Prim.Native.Nat.{_≤_};
 ghost use lib.ListN.{length};
 ghost use Rattle.model.specs.Lent.{before, after};
-ghost use Rattle.model.specs.Board.{vertexLimit, unmarked, EndsWithin};
+ghost use Rattle.model.specs.Board.{vertexLimit, plain, EndsWithin};
 ghost use Rattle.model.specs.Growth.{clusters};
 ghost use Rattle.decoder.specs.Books.{Fresh, Holds, Kept, Finds, BothKept, Fuses, Fusable, FusesListed, Growable, Grows};
 
@@ -65,7 +65,7 @@ impl Book {
     pub(crate) fn gathered(vertices: usize, ends: &[u16], support: &[u8]) -> Self
         requires { ⌜ EndsWithin vertices (length (now support)) (now ends) ⌝ }
         ensures { λ r.
-            ⌜ Holds vertices r (clusters (unmarked vertices (length (before support)) (before ends)) (before support)) ⌝ }
+            ⌜ Holds vertices r (clusters (plain vertices (length (before support)) (before ends)) (before support)) ⌝ }
     {
         let fresh = Self::fresh(vertices);
         let mut parent = fresh.parent;

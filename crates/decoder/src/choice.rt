@@ -1,5 +1,6 @@
 use crate::exposure::exposure;
 use crate::labels::labels_of;
+use crate::odd_counts::odd_counts;
 use crate::tally::tally;
 use model::limits::VERTICES;
 use model::numbers::Vertex;
@@ -16,8 +17,8 @@ pub(crate) enum Chosen {
 // More than any boundary size.
 const UNBOUNDED: u16 = VERTICES as u16 + 1;
 
-// The odd cluster with the smallest boundary; among equals, the one with the smallest label. Entry a of each array is the number of
-// syndrome vertices and the boundary size of the cluster labelled a.
+// The odd cluster with the smallest boundary; among equals, the one with the smallest label. Entry a of the arrays is a count that is odd
+// where the cluster labelled a is, and its boundary size.
 fn least(vertices: usize, lit: &[u16; VERTICES], boundary: &[u16; VERTICES]) -> Chosen
     requires { ⌜ Sized vertices (now boundary) ⌝ }
     ensures { λ r. ⌜ chosenOf r ≡ leastUpTo vertices (oddAt (before lit)) (sizeAt (before boundary)) ⌝ }
@@ -46,14 +47,15 @@ pub(crate) fn choose(
     vertices: usize,
     parent: &[u16; VERTICES],
     ends: &[u16],
+    opened: &[u8],
     syndrome: &[u8],
     support: &[u8],
 ) -> Chosen
-    requires { ⌜ Choosable vertices (now parent) (now ends) (now syndrome) (now support) ⌝ }
-    ensures { λ r. ⌜ chosenOf r ≡ chosenCluster vertices (before ends) (before syndrome) (before support) ⌝ }
+    requires { ⌜ Choosable vertices (now parent) (now ends) (now opened) (now syndrome) (now support) ⌝ }
+    ensures { λ r. ⌜ chosenOf r ≡ chosenCluster vertices (before ends) (before opened) (before syndrome) (before support) ⌝ }
 {
     let labels = labels_of(vertices, parent);
-    let lit = tally(&labels, syndrome);
+    let lit = odd_counts(&labels, opened, syndrome);
     let exposed = exposure(ends, support);
     let boundary = tally(&labels, &exposed[..vertices]);
     least(vertices, &lit, &boundary)

@@ -25,13 +25,14 @@ fn chosen_cluster(
     vertices: usize,
     parent: &[u16; VERTICES],
     ends: &[u16],
+    opened: &[u8],
     syndrome: &[u8],
     support: &[u8],
 ) -> Growing
-    requires { ⌜ Choosable vertices (now parent) (now ends) (now syndrome) (now support) ⌝ }
-    ensures { λ r. ⌜ Follows weighted vertices (before ends) (before syndrome) (before support) r ⌝ }
+    requires { ⌜ Choosable vertices (now parent) (now ends) (now opened) (now syndrome) (now support) ⌝ }
+    ensures { λ r. ⌜ Follows weighted vertices (before ends) (before opened) (before syndrome) (before support) r ⌝ }
 {
-    match choose(vertices, parent, ends, syndrome, support) {
+    match choose(vertices, parent, ends, opened, syndrome, support) {
         Chosen::Nothing => {
             let inside = [0u8; VERTICES];
             Growing { inside, any: false }
@@ -49,14 +50,15 @@ pub(crate) fn next(
     vertices: usize,
     parent: &[u16; VERTICES],
     ends: &[u16],
+    opened: &[u8],
     syndrome: &[u8],
     support: &[u8],
 ) -> Growing
-    requires { ⌜ Choosable vertices (now parent) (now ends) (now syndrome) (now support) ⌝ }
-    ensures { λ r. ⌜ Follows (policyOf growth) vertices (before ends) (before syndrome) (before support) r ⌝ }
+    requires { ⌜ Choosable vertices (now parent) (now ends) (now opened) (now syndrome) (now support) ⌝ }
+    ensures { λ r. ⌜ Follows (policyOf growth) vertices (before ends) (before opened) (before syndrome) (before support) r ⌝ }
 {
     match growth {
-        Growth::Weighted => chosen_cluster(vertices, parent, ends, syndrome, support),
-        Growth::Rounds => odd_clusters(vertices, parent, syndrome),
+        Growth::Weighted => chosen_cluster(vertices, parent, ends, opened, syndrome, support),
+        Growth::Rounds => odd_clusters(vertices, parent, opened, syndrome),
     }
 }

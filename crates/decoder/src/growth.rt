@@ -27,15 +27,24 @@ pub(crate) fn step(
     growth: Growth,
     book: Book,
     ends: &[u16],
+    opened: &[u8],
     syndrome: &[u8],
     support: &mut [u8],
 ) -> Stepped
-    requires { ⌜ Steppable (book .vertices) (length (now support)) book (now ends) (now syndrome) (now support) ⌝ }
+    requires { ⌜ Steppable (book .vertices) (length (now support)) book (now ends) (now opened) (now syndrome) (now support) ⌝ }
     ensures { λ r.
-        ⌜ Steps (policyOf growth) (book .vertices) (length (before support)) (before ends) (before syndrome) (before support)
+        ⌜ Steps (policyOf growth) (book .vertices) (length (before support)) (before ends) (before opened) (before syndrome) (before support)
         r (after support) ⌝ }
 {
-    let following = next(growth, book.vertices, &book.parent, ends, syndrome, support);
+    let following = next(
+        growth,
+        book.vertices,
+        &book.parent,
+        ends,
+        opened,
+        syndrome,
+        support,
+    );
     if !following.any {
         return Stepped { book, grew: false };
     }
@@ -47,27 +56,34 @@ pub(crate) fn step(
     }
 }
 
-// Steps until no cluster is odd. Returns how many growths or rounds there were.
+// The book after a run, and how many growths or rounds there were.
+pub(crate) struct Ran {
+    pub(crate) book: Book,
+    pub(crate) count: usize,
+}
+
+// Steps until no cluster is odd.
 pub(crate) fn run(
     growth: Growth,
     start: Book,
     ends: &[u16],
+    opened: &[u8],
     syndrome: &[u8],
     support: &mut [u8],
-) -> usize
-    requires { ⌜ Runnable (start .vertices) (length (now support)) start (now ends) (now syndrome) (now support) ⌝ }
+) -> Ran
+    requires { ⌜ Runnable (start .vertices) (length (now support)) start (now ends) (now opened) (now syndrome) (now support) ⌝ }
     ensures { λ r.
-        ⌜ Runs (policyOf growth) (start .vertices) (length (before support)) (before ends) (before syndrome) (before support)
+        ⌜ Runs (policyOf growth) (start .vertices) (length (before support)) (before ends) (before opened) (before syndrome) (before support)
         r (after support) ⌝ }
 {
     let mut book = start;
     let mut count = 0;
     loop {
-        let stepped = step(growth, book, ends, syndrome, support);
-        if !stepped.grew {
-            return count;
-        }
+        let stepped = step(growth, book, ends, opened, syndrome, support);
         book = stepped.book;
+        if !stepped.grew {
+            return Ran { book, count };
+        }
         count += 1;
     }
 }

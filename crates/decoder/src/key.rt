@@ -1,6 +1,8 @@
 use crate::growing::Growth;
 use crate::growth::run;
 use crate::growth::start;
+use crate::labels::labels_of;
+use crate::odd_ends::odd_ends;
 use board::outcome::FoundVertex;
 use model::refusal::Refusal;
 use parts::first_odd;
@@ -21,23 +23,29 @@ pub(crate) fn key(
     growth: Growth,
     vertices: usize,
     ends: &[u16],
+    opened: &[u8],
     syndrome: &[u8],
     loss: &[u8],
     support: &mut [u8],
     correction: &mut [u8],
 ) -> Solved
-    requires { ⌜ Keyable vertices (now ends) (now syndrome) (now loss) (now support) (now correction) ⌝ }
+    requires { ⌜ Keyable vertices (now ends) (now opened) (now syndrome) (now loss) (now support) (now correction) ⌝ }
     ensures { λ r.
-        ⌜ Keys (policyOf growth) (bare vertices (before ends) (before syndrome) (before loss)) (before support) (before correction)
+        ⌜ Keys (policyOf growth) (bare vertices (before ends) (before opened) (before syndrome) (before loss)) (before support) (before correction)
         r (after support) (after correction) ⌝ }
 {
-    if let FoundVertex::At(v) = first_odd(vertices, ends, syndrome) {
+    if let FoundVertex::At(v) = first_odd(vertices, ends, opened, syndrome) {
         return Solved::Refused(Refusal::NoCorrection(v));
     }
     let book = start(vertices, ends, loss, support);
-    let count = run(growth, book, ends, syndrome, support);
-    let edges = peel(vertices, ends, support, syndrome, correction);
-    Solved::Key { count, edges }
+    let ran = run(growth, book, ends, opened, syndrome, support);
+    let labels = labels_of(vertices, &ran.book.parent);
+    let lit = odd_ends(&labels, opened, syndrome);
+    let edges = peel(vertices, ends, support, &lit[..vertices], correction);
+    Solved::Key {
+        count: ran.count,
+        edges,
+    }
 }
 
 // How many bytes of each lent buffer an answer writes: one for each edge, and none where it refuses.

@@ -8,6 +8,8 @@ mod growth;
 mod key;
 mod labels;
 mod odd_clusters;
+mod odd_counts;
+mod odd_ends;
 mod solve;
 mod support;
 mod tally;
@@ -27,16 +29,17 @@ pub fn decode(
     vertices: usize,
     ends: &[u16],
     marks: &[u8],
+    opened: &[u8],
     syndrome: &[u8],
     loss: &[u8],
     support: &mut [u8],
     correction: &mut [u8],
 ) -> Decoded
     ensures key { λ r.
-        ⌜ Decodes (sheetLent vertices ends marks syndrome loss) (before support) (before correction)
+        ⌜ Decodes (sheetLent vertices ends marks opened syndrome loss) (before support) (before correction)
         r (after support) (after correction) ⌝ }
     ensures sound { λ r.
-        ⌜ DecodesSoundly (sheetLent vertices ends marks syndrome loss) (before support) (before correction)
+        ⌜ DecodesSoundly (sheetLent vertices ends marks opened syndrome loss) (before support) (before correction)
         r (after correction) ⌝ }
 {
     match solve(
@@ -44,6 +47,7 @@ pub fn decode(
         vertices,
         ends,
         marks,
+        opened,
         syndrome,
         loss,
         support,
@@ -63,16 +67,17 @@ pub fn decode_rounds(
     vertices: usize,
     ends: &[u16],
     marks: &[u8],
+    opened: &[u8],
     syndrome: &[u8],
     loss: &[u8],
     support: &mut [u8],
     correction: &mut [u8],
 ) -> RoundsDecoded
     ensures key { λ r.
-        ⌜ DecodesInRounds (sheetLent vertices ends marks syndrome loss) (before support) (before correction)
+        ⌜ DecodesInRounds (sheetLent vertices ends marks opened syndrome loss) (before support) (before correction)
         r (after support) (after correction) ⌝ }
     ensures sound { λ r.
-        ⌜ RoundsSoundly (sheetLent vertices ends marks syndrome loss) (before support) (before correction)
+        ⌜ RoundsSoundly (sheetLent vertices ends marks opened syndrome loss) (before support) (before correction)
         r (after support) (after correction) ⌝ }
 {
     match solve(
@@ -80,6 +85,7 @@ pub fn decode_rounds(
         vertices,
         ends,
         marks,
+        opened,
         syndrome,
         loss,
         support,

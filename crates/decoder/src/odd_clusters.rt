@@ -1,6 +1,6 @@
 use crate::growing::Growing;
 use crate::labels::labels_of;
-use crate::tally::tally;
+use crate::odd_counts::odd_counts;
 use model::limits::VERTICES;
 ghost use Rattle.model.specs.Lent.{before};
 ghost use Rattle.decoder.specs.Tallies.{Tallied};
@@ -25,12 +25,17 @@ fn mark_odd(vertices: usize, labels: &[u16; VERTICES], lit: &[u16; VERTICES]) ->
     Growing { inside, any }
 }
 
-// The vertices of all clusters that hold an odd number of syndrome vertices, as the clusters are now.
-pub(crate) fn odd_clusters(vertices: usize, parent: &[u16; VERTICES], syndrome: &[u8]) -> Growing
-    requires { ⌜ Countable vertices (now parent) (now syndrome) ⌝ }
-    ensures { λ r. ⌜ FindsOdd vertices (before parent) (before syndrome) r ⌝ }
+// The vertices of all odd clusters, as the clusters are now.
+pub(crate) fn odd_clusters(
+    vertices: usize,
+    parent: &[u16; VERTICES],
+    opened: &[u8],
+    syndrome: &[u8],
+) -> Growing
+    requires { ⌜ Countable vertices (now parent) (now opened) (now syndrome) ⌝ }
+    ensures { λ r. ⌜ FindsOdd vertices (before parent) (before opened) (before syndrome) r ⌝ }
 {
     let labels = labels_of(vertices, parent);
-    let lit = tally(&labels, syndrome);
+    let lit = odd_counts(&labels, opened, syndrome);
     mark_odd(vertices, &labels, &lit)
 }

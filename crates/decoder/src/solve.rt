@@ -16,19 +16,21 @@ pub(crate) fn solve(
     vertices: usize,
     ends: &[u16],
     marks: &[u8],
+    opened: &[u8],
     syndrome: &[u8],
     loss: &[u8],
     support: &mut [u8],
     correction: &mut [u8],
 ) -> Solved
     ensures { λ r.
-        ⌜ Solves (policyOf growth) (sheetLent vertices ends marks syndrome loss) (before support) (before correction)
+        ⌜ Solves (policyOf growth) (sheetLent vertices ends marks opened syndrome loss) (before support) (before correction)
         r (after support) (after correction) ⌝ }
 {
     if let Check::Failed(refusal) = check_decode(
         vertices,
         ends,
         marks,
+        opened,
         syndrome,
         loss,
         support,
@@ -43,6 +45,7 @@ pub(crate) fn solve(
         growth,
         vertices,
         ends,
+        opened,
         syndrome,
         loss,
         &mut new_support[..edges],

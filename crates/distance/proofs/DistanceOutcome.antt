@@ -1,7 +1,6 @@
 -- The three answers of `distance`, each with what stands in its array; and what is copied from there into the lent buffer. Assumes nothing.
 use Prim.Native.Nat.{ℕ, _≤_, _<_}
 use mathlib.Core.Path.{_≡_, refl, sym, ap, _∙_}
-use mathlib.Core.Bool.{Bool}
 use mathlib.Core.List.{List, [], _++_, append-nil}
 use mathlib.Core.Option.{Option, none, some}
 use native.Mathlib.Omega.{arith}
@@ -10,11 +9,13 @@ use lib.Seq.{drop-length}
 use Rattle.model.specs.declared.refusal.Refusal.{Refusal}
 use Rattle.model.specs.declared.answers.Distance.{Distance}
 use Rattle.model.specs.declared.answers.Distance.the-variants.{Fewest, Nothing, Refused}
-use Rattle.model.specs.Board.{Board, edges, edgeLimit}
+use Rattle.model.specs.Board.{Board, Inside, edges, edgeLimit}
 use Rattle.model.specs.Distance.{fewest}
-use Rattle.model.specs.Refusals.{Test, refusalOf, boardRules, edgesOf, sized, distanceRefusal}
+use Rattle.model.specs.Identified.{identified}
+use Rattle.model.specs.Refusals.{Test, distanceRefusal}
 use Rattle.model.specs.Outcomes.{answer, distanceOf, distanceAnswer, Shows, Measures}
 use Rattle.model.proofs.Contradiction.{zero-one}
+use Rattle.theory.proofs.Identified.{fewest-identified, shows-identified}
 use Rattle.board.proofs.Calls.{ForDistance, distance-passes}
 use Rattle.distance.specs.Walking.{noLoop}
 use Rattle.distance.specs.Found.{Shortest, Answered, bytesWritten}
@@ -22,19 +23,24 @@ use Rattle.distance.specs.Found.{Shortest, Answered, bytesWritten}
 -- the answers
 
 pub refused :
-    {B : Board} {fit : Bool} {found : List ℕ} {n : Refusal} → refusalOf (boardRules B fit) ≡ some n → length found ≡ edgeLimit →
-    Answered B fit (Refused n) found
+    {B : Board} {shown found : List ℕ} {n : Refusal} → distanceRefusal B shown ≡ some n → length found ≡ edgeLimit →
+    Answered B shown (Refused n) found
 refused p long = record { result = rw p; long = long; loop = refl }
 
-pub no-loop :
-    {B : Board} {fit : Bool} {best : ℕ} {found : List ℕ} → refusalOf (boardRules B fit) ≡ none → Shortest B best found →
-    best ≡ noLoop → Answered B fit Nothing found
-no-loop p s q = record { result = rw (p, s .none q); long = s .long; loop = s .blank q }
+-- the walks are those of the identified board, which has the distance and the loops of the board
+module _ (B : Board) (shown : List ℕ) (p : distanceRefusal B shown ≡ none) (best : ℕ) (found : List ℕ) (s : Shortest (identified B) best found) where
+  inside : Inside B
+  inside = distance-passes B shown p .board .inside
 
-pub loop-found :
-    {B : Board} {fit : Bool} {best : ℕ} {found : List ℕ} → refusalOf (boardRules B fit) ≡ none → Shortest B best found →
-    best < noLoop → Answered B fit (Fewest best) found
-loop-found p s h = record { result = rw (p, s .distance h); long = s .long; loop = s .loop h }
+  same : fewest B ≡ fewest (identified B)
+  same = sym (fewest-identified B inside)
+
+  pub no-loop : best ≡ noLoop → Answered B shown Nothing found
+  no-loop q = record { result = rw (p, same, s .none q); long = s .long; loop = s .blank q }
+
+  pub loop-found : best < noLoop → Answered B shown (Fewest best) found
+  loop-found h =
+      record { result = rw (p, same, s .distance h); long = s .long; loop = shows-identified B inside best (take (edges B) found) (s .loop h) }
 
 -- the copy
 
@@ -48,10 +54,9 @@ passed (some n) f r p apart = absurd (apart n p)
 module _ (B : Board) (shown found : List ℕ) where
   -- the answer where the tests are told of that buffer
   abbrev pub AnsweredFor : Distance → Type 0
-  AnsweredFor r = Answered B (sized shown (edgesOf (B .ends))) r found
+  AnsweredFor r = Answered B shown r found
 
   lent : (r : Distance) → AnsweredFor r → ((n : Refusal) → r ≡ Refused n → ⊥) → ForDistance B shown
-  unfolding distanceRefusal
   lent r a apart = distance-passes B shown (passed _ (fewest B) r (a .result) apart)
 
   -- a byte for each edge: there is room for them, and they are all that the buffer holds
@@ -80,5 +85,5 @@ module _ (B : Board) (shown found : List ℕ) where
   pub measured :
       (r : Distance) → AnsweredFor r →
       Measures B shown r (take (bytesWritten r (edges B)) found ++ drop (bytesWritten r (edges B)) shown)
-  unfolding distanceAnswer distanceRefusal
+  unfolding distanceAnswer
   measured r a = record { result = a .result; loop = copied r a }

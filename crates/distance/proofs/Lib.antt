@@ -9,3 +9,4 @@ pub mod Tracing
 pub mod Meetings
 pub mod LoopAnswers
 pub mod DistanceOutcome
+pub mod GluedEnds

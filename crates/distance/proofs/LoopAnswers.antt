@@ -11,12 +11,14 @@ use native.Mathlib.Omega.{arith}
 use borrow.Author.Count.{below-more}
 use lib.ListN.{length, take, replicate, length-replicate}
 use Rattle.model.specs.Sums.{Set, bytes}
-use Rattle.model.specs.Board.{Board, boardOf, Valid, edges, vertexLimit, edgeLimit}
+use Rattle.model.specs.Board.{Board, withoutOpen, Valid, edges, vertexLimit, edgeLimit}
 use Rattle.model.specs.Winding.{winds}
 use Rattle.model.specs.Distance.{fewest}
 use Rattle.model.proofs.Xor.{not-true-false}
 use Rattle.model.proofs.SumLaws.{count-bound}
 use Rattle.model.proofs.EndLaws.{within-limit}
+use Rattle.model.proofs.OpenBytes.{zeros-valid}
+use Rattle.theory.proofs.Syndromes.{Sealed, without-open-sealed}
 use Rattle.theory.proofs.CrossedLines.{Line, lineA, lineB}
 use Rattle.theory.proofs.Walks.{Along, forth, back, Walk, stop, step, walkCrosses, passedOddly}
 use Rattle.theory.proofs.ShortLoops.{ShortWalksUnmarked}
@@ -30,25 +32,26 @@ use Rattle.distance.proofs.ShownBytes.{bytes-long, front-bytes, front-b
 
 -- the vertex count does not matter to a walk
 module _ (n k : ℕ) (ends marks : List ℕ) where
-  along-any : {e u v : ℕ} → Along (boardOf n ends marks) e u v → Along (boardOf k ends marks) e u v
+  along-any : {e u v : ℕ} → Along (withoutOpen n ends marks) e u v → Along (withoutOpen k ends marks) e u v
   along-any (forth p q) = forth p q
   along-any (back p q) = back p q
 
-  walk-any : {u v : ℕ} {l : List ℕ} → Walk (boardOf n ends marks) u l v → Walk (boardOf k ends marks) u l v
+  walk-any : {u v : ℕ} {l : List ℕ} → Walk (withoutOpen n ends marks) u l v → Walk (withoutOpen k ends marks) u l v
   walk-any stop = stop
   walk-any (step h a w) = step h (along-any a) (walk-any w)
 
-  crosses-any : (x : Line) (l : List ℕ) → walkCrosses (boardOf n ends marks) x l ≡ walkCrosses (boardOf k ends marks) x l
+  crosses-any : (x : Line) (l : List ℕ) → walkCrosses (withoutOpen n ends marks) x l ≡ walkCrosses (withoutOpen k ends marks) x l
   crosses-any lineA l = refl
   crosses-any lineB l = refl
 
 -- the board with as many vertices as there may be
-pub padded-valid : {n : ℕ} {ends marks : List ℕ} → Valid (boardOf n ends marks) → Valid (padded ends marks)
+pub padded-valid : {n : ℕ} {ends marks : List ℕ} → Valid (withoutOpen n ends marks) → Valid (padded ends marks)
 padded-valid valid =
     record {
       some-vertex = omega arith;
       inside = within-limit (valid .inside);
       mark-in-range = valid .mark-in-range;
+      open-bytes = zeros-valid vertexLimit;
     }
 
 -- before the first start
@@ -91,13 +94,16 @@ module _
     {ends marks : List ℕ}
     {best : ℕ}
     {found : List ℕ}
-    (valid : Valid (boardOf n ends marks))
+    (valid : Valid (withoutOpen n ends marks))
     (all : Searched (padded ends marks) n best found) where
   abbrev B : Board
-  B = boardOf n ends marks
+  B = withoutOpen n ends marks
 
   abbrev P : Board
   P = padded ends marks
+
+  shut : Sealed B
+  shut = without-open-sealed n ends marks
 
   -- closed walks of fewer edges than the best cross each line an even number of times
   short-unmarked : (k : ℕ) → k < best → ShortWalksUnmarked B k
@@ -113,7 +119,7 @@ module _
     where
       large : (D : Set) → winds B D ≡ true → ⊥
       large D w =
-          let above = walks-above-loops B (valid .inside) edgeLimit (short-unmarked edgeLimit (omega arith)) .above D w in
+          let above = walks-above-loops B (valid .inside) shut edgeLimit (short-unmarked edgeLimit (omega arith)) .above D w in
           omega (arith, count-bound (edges B) D, valid .inside .edge-limit)
 
   -- the walk that is shown is a shortest one
@@ -121,7 +127,7 @@ module _
   shown-shortest s =
       let crossed = crosses-any n vertexLimit ends marks (s .line) (s .list) ∙ s .crossed in
       let some-edge = crossing-long B (s .line) (s .list) crossed in
-      shortest-walk B (valid .inside) (s .vertex) (best - 1) (s .list) (s .line)
+      shortest-walk B (valid .inside) shut (s .vertex) (best - 1) (s .list) (s .line)
       (walk-any vertexLimit n ends marks (s .walk)) crossed (omega (arith, s .long)) (short-unmarked (best - 1) (omega (arith, s .long)))
 
   -- the front of the array shows its odd edges

@@ -3,7 +3,7 @@
 -- not cite it. Assumes nothing.
 use Prim.Native.Nat.{ℕ, _≤_, _<_}
 use mathlib.Core.Path.{_≡_}
-use mathlib.Core.Bool.{Bool, true}
+use mathlib.Core.Bool.{true}
 use mathlib.Core.List.{List}
 use mathlib.Core.Option.{none, some}
 use lib.ListN.{length, take, replicate}
@@ -12,7 +12,7 @@ use Rattle.model.specs.declared.answers.Distance.the-variants.{Fewest, Nothing,
 use Rattle.model.specs.Sums.{bytes}
 use Rattle.model.specs.Board.{Board, edges, edgeLimit}
 use Rattle.model.specs.Distance.{fewest}
-use Rattle.model.specs.Refusals.{refusalOf, boardRules}
+use Rattle.model.specs.Refusals.{distanceRefusal}
 use Rattle.model.specs.Outcomes.{answer, distanceOf, ShowsLoop, Shows}
 use Rattle.theory.proofs.CrossedLines.{Line}
 use Rattle.theory.proofs.Walks.{Walk, walkCrosses, passedOddly}
@@ -52,10 +52,10 @@ pub record Shortest (B : Board) (best : ℕ) (found : List ℕ) : Type 0 where
   pub distance : best < noLoop → fewest B ≡ some best
   pub loop : best < noLoop → ShowsLoop B best (take (edges B) found)
 
--- After the tests, which `fit` tells whether the lent buffer has its length, and the walks: the answer, and in the front of the array what it
--- shows. Where it is a refusal the front may hold anything.
-pub record Answered (B : Board) (fit : Bool) (r : Distance) (found : List ℕ) : Type 0 where
-  pub result : r ≡ answer (refusalOf (boardRules B fit)) Refused (distanceOf (fewest B))
+-- After the tests, of which the lent buffer asks for one, and the walks: the answer, and in the front of the array what it shows. Where it is
+-- a refusal the front may hold anything.
+pub record Answered (B : Board) (shown : List ℕ) (r : Distance) (found : List ℕ) : Type 0 where
+  pub result : r ≡ answer (distanceRefusal B shown) Refused (distanceOf (fewest B))
   pub long : length found ≡ edgeLimit
   pub loop : Shows B (take (edges B) found) r (take (edges B) found)
 

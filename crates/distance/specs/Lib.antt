@@ -3,3 +3,4 @@ pub mod Search
 pub mod Walking
 pub mod Tracing
 pub mod Found
+pub mod Gluing

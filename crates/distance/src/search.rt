@@ -10,8 +10,8 @@ use model::limits::VERTICES;
 use model::numbers::Vertex;
 ghost use mathlib.Core.Path.{_≡_};
 ghost use lib.ListN.{replicate};
-ghost use Rattle.model.specs.Lent.{before, after, boardLent};
-ghost use Rattle.model.specs.Board.{boardOf, Valid, edgeLimit};
+ghost use Rattle.model.specs.Lent.{before, after};
+ghost use Rattle.model.specs.Board.{withoutOpen, Valid, edgeLimit};
 ghost use Rattle.distance.specs.States.{padded};
 ghost use Rattle.distance.specs.Walking.{Ready};
 ghost use Rattle.distance.specs.Found.{Improved, Shortest};
@@ -53,11 +53,11 @@ fn improve(
     depth[met.0 as usize] - 1
 }
 
-// The fewest edges of a loop over all starts, and such a loop in `found`, or NO_LOOP and zeros.
+// The fewest edges of a loop over all starts, on a board without open vertices, and such a loop in `found`, or NO_LOOP and zeros.
 pub fn shortest(vertices: usize, ends: &[u16], marks: &[u8], found: &mut [u8; EDGES]) -> u16
-    requires { ⌜ Valid (boardOf vertices (now ends) (now marks)) ⌝ }
+    requires { ⌜ Valid (withoutOpen vertices (now ends) (now marks)) ⌝ }
     requires { ⌜ now found ≡ replicate edgeLimit 0 ⌝ }
-    ensures { λ r. ⌜ Shortest (boardLent vertices ends marks) r (after found) ⌝ }
+    ensures { λ r. ⌜ Shortest (withoutOpen vertices (before ends) (before marks)) r (after found) ⌝ }
 {
     let mut offsets = [0u16; OFFSETS];
     let mut entries = [0u16; ENTRIES];

@@ -237,7 +237,9 @@ fn after(v: usize, vertices: usize) -> usize
 fn show(name: &[u8], vertices: usize, ends: &[u16], marks: &[u8], shown: &mut [u8]) {
     io::write_all(STDOUT_FILENO, name);
     print(b"\t", vertices as u64);
-    match distance::distance(vertices, ends, marks, shown) {
+    let zeros = [0u8; MOST];
+    let n = unopened(vertices);
+    match distance::distance(vertices, ends, marks, &zeros[..n], shown) {
         Distance::Fewest(edges) => {
             print(b"\tD\t", edges as u64);
         }
@@ -256,6 +258,19 @@ fn show(name: &[u8], vertices: usize, ends: &[u16], marks: &[u8], shown: &mut [u
         io::write_all(STDOUT_FILENO, b"\tW");
     }
     io::write_all(STDOUT_FILENO, b"\n");
+}
+
+// One more vertex than a board may have.
+const MOST: usize = 1025;
+
+// For how many vertices a 0 is lent, none of them being open. A vertex count that is larger is refused before its open bytes are counted.
+fn unopened(vertices: usize) -> usize
+    ensures { λ r. ⌜ r ≤ 1025 ⌝ }
+{
+    if vertices < MOST {
+        return vertices;
+    }
+    MOST
 }
 
 fn print(before: &[u8], n: u64) {

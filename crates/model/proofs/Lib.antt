@@ -5,6 +5,7 @@ pub mod SumLaws
 pub mod CountLaws
 pub mod ListLaws
 pub mod EndLaws
+pub mod OpenBytes
 pub mod RuleLists
 pub mod RuleNumbers
 pub mod ReportExamples

@@ -4,12 +4,12 @@ use Prim.Native.Nat.{ℕ}
 use mathlib.Core.Path.{_≡_, refl}
 use mathlib.Core.List.{List, [], _∷_, _++_}
 use Rattle.model.specs.Sums.{oddUpTo, countUpTo, someUpTo, firstUpTo, values, members}
-use Rattle.model.specs.Syndrome.{syndrome}
+use Rattle.model.specs.Syndrome.{oddEnd, syndrome}
 use Rattle.model.specs.Winding.{closed, crossings, winds}
 use Rattle.model.specs.Components.{labelsUpTo, labels}
-use Rattle.model.specs.Growth.{start, clusters, odd, exposed, boundary, choiceUpTo, choice, swell, weighted, growFrom, grown}
+use Rattle.model.specs.Growth.{start, clusters, oddlyLit, holdsOpen, odd, exposed, boundary, choiceUpTo, choice, swell, weighted, growFrom, grown}
 use Rattle.model.specs.Forest.{takenUpTo, forest}
-use Rattle.model.specs.Correction.{oddSide, correction}
+use Rattle.model.specs.Correction.{oddSide, spanned, oddEnds, correction}
 use Rattle.model.specs.Decoding.{parts, inOddPart, smallestOdd, grownBy, peeled}
 use Rattle.model.specs.Distance.{fewestFrom, fewest}
 use Rattle.model.specs.Text.{decimalUpTo, decimal, fieldsOf, partedBy, numberFrom, number, numbers, fromFields, lineFrom, step, readOn, readLines, readText}
@@ -34,24 +34,24 @@ lit3 = 83 ∷ 9 ∷ 51 ∷ 10 ∷ []
 
 -- G 2, C 3, D 4
 pub ring-report : reportOf (ring ++ lit0 ++ lit3) ≡ 71 ∷ 9 ∷ 50 ∷ 10 ∷ 67 ∷ 9 ∷ 51 ∷ 10 ∷ 68 ∷ 9 ∷ 52 ∷ 10 ∷ []
-unfolding ring lit0 lit3 reportOf sheetReport keyReport refusalLine distanceLine edgeLines reportLine decimalUpTo decimal fieldsOf partedBy numberFrom number numbers fromFields lineFrom step readOn readLines readText members oddUpTo countUpTo someUpTo firstUpTo values syndrome closed crossings winds labelsUpTo labels start clusters odd exposed boundary choiceUpTo choice swell weighted growFrom grown takenUpTo forest oddSide correction parts inOddPart smallestOdd grownBy peeled fewestFrom fewest
+unfolding ring lit0 lit3 reportOf sheetReport keyReport refusalLine distanceLine edgeLines reportLine decimalUpTo decimal fieldsOf partedBy numberFrom number numbers fromFields lineFrom step readOn readLines readText members oddUpTo countUpTo someUpTo firstUpTo values oddEnd syndrome closed crossings winds labelsUpTo labels start clusters oddlyLit holdsOpen odd exposed boundary choiceUpTo choice swell weighted growFrom grown takenUpTo forest oddSide spanned oddEnds correction parts inOddPart smallestOdd grownBy peeled fewestFrom fewest
 ring-report = refl
 
 -- N 10 0
 pub odd-report : reportOf (ring ++ lit3) ≡ 78 ∷ 9 ∷ 49 ∷ 48 ∷ 9 ∷ 48 ∷ 10 ∷ []
-unfolding ring lit3 reportOf sheetReport refusalLine reportLine decimalUpTo decimal fieldsOf partedBy numberFrom number numbers fromFields lineFrom step readOn readLines readText oddUpTo firstUpTo values labelsUpTo labels odd parts inOddPart smallestOdd
+unfolding ring lit3 reportOf sheetReport refusalLine reportLine decimalUpTo decimal fieldsOf partedBy numberFrom number numbers fromFields lineFrom step readOn readLines readText oddUpTo someUpTo firstUpTo values labelsUpTo labels oddlyLit holdsOpen odd parts inOddPart smallestOdd
 odd-report = refl
 
 -- a vertex alone, V 1: G 0, D -
 pub point-report : reportOf (86 ∷ 9 ∷ 49 ∷ 10 ∷ []) ≡ 71 ∷ 9 ∷ 48 ∷ 10 ∷ 68 ∷ 9 ∷ 45 ∷ 10 ∷ []
-unfolding reportOf sheetReport keyReport refusalLine distanceLine edgeLines reportLine decimalUpTo decimal fieldsOf partedBy numberFrom number numbers fromFields lineFrom step readOn readLines readText members oddUpTo countUpTo someUpTo firstUpTo values syndrome closed crossings winds labelsUpTo labels start clusters odd exposed boundary choiceUpTo choice swell weighted growFrom grown takenUpTo forest oddSide correction parts inOddPart smallestOdd grownBy peeled fewestFrom fewest
+unfolding reportOf sheetReport keyReport refusalLine distanceLine edgeLines reportLine decimalUpTo decimal fieldsOf partedBy numberFrom number numbers fromFields lineFrom step readOn readLines readText members oddUpTo countUpTo someUpTo firstUpTo values oddEnd syndrome closed crossings winds labelsUpTo labels start clusters oddlyLit holdsOpen odd exposed boundary choiceUpTo choice swell weighted growFrom grown takenUpTo forest oddSide spanned oddEnds correction parts inOddPart smallestOdd grownBy peeled fewestFrom fewest
 point-report = refl
 
 -- the torus of side 1, V 1, E 0 0 1, E 0 0 2: G 0, D 1
 pub loops-report :
     reportOf ((86 ∷ 9 ∷ 49 ∷ 10 ∷ []) ++ (69 ∷ 9 ∷ 48 ∷ 9 ∷ 48 ∷ 9 ∷ 49 ∷ 10 ∷ []) ++ (69 ∷ 9 ∷ 48 ∷ 9 ∷ 48 ∷ 9 ∷ 50 ∷ 10 ∷ []))
     ≡ 71 ∷ 9 ∷ 48 ∷ 10 ∷ 68 ∷ 9 ∷ 49 ∷ 10 ∷ []
-unfolding reportOf sheetReport keyReport refusalLine distanceLine edgeLines reportLine decimalUpTo decimal fieldsOf partedBy numberFrom number numbers fromFields lineFrom step readOn readLines readText members oddUpTo countUpTo someUpTo firstUpTo values syndrome closed crossings winds labelsUpTo labels start clusters odd exposed boundary choiceUpTo choice swell weighted growFrom grown takenUpTo forest oddSide correction parts inOddPart smallestOdd grownBy peeled fewestFrom fewest
+unfolding reportOf sheetReport keyReport refusalLine distanceLine edgeLines reportLine decimalUpTo decimal fieldsOf partedBy numberFrom number numbers fromFields lineFrom step readOn readLines readText members oddUpTo countUpTo someUpTo firstUpTo values oddEnd syndrome closed crossings winds labelsUpTo labels start clusters oddlyLit holdsOpen odd exposed boundary choiceUpTo choice swell weighted growFrom grown takenUpTo forest oddSide spanned oddEnds correction parts inOddPart smallestOdd grownBy peeled fewestFrom fewest
 loops-report = refl
 
 -- an S line twice: N 13 7

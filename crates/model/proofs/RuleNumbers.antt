@@ -1,10 +1,10 @@
--- The numbers of each call's rules, in the order in which they are tested. They rise in every call but the torus builder, which tests the
--- side before the lengths. Assumes nothing.
+-- The numbers of each call's rules, in the order in which they are tested. They rise in every call but three: the torus builder and the
+-- planar builder test the side before the lengths, and the writer tests the open bytes before the text. Assumes nothing.
 use Prim.Native.Nat.{ℕ}
 use mathlib.Core.Path.{_≡_, refl}
 use mathlib.Core.List.{List, [], _∷_}
 use Rattle.model.specs.Board.{Board, Sheet}
-use Rattle.model.specs.Refusals.{decodeRules, verdictRules, distanceRules, torusRules}
+use Rattle.model.specs.Refusals.{decodeRules, verdictRules, distanceRules, torusRules, planarRules}
 use Rattle.model.specs.TextOutcomes.{Buffers, readRules, writeRules}
 use Rattle.model.specs.Precedence.{Numbered}
 
@@ -12,31 +12,35 @@ use Rattle.model.specs.Precedence.{Numbered}
 its-place : (k i : ℕ) → (k ≡ k) × (i ≡ i)
 its-place k i = (refl, refl)
 
-pub distance-numbers : (B : Board) (shown : List ℕ) → Numbered (1 ∷ 2 ∷ 3 ∷ 4 ∷ 6 ∷ []) (distanceRules B shown)
+pub distance-numbers : (B : Board) (shown : List ℕ) → Numbered (1 ∷ 2 ∷ 3 ∷ 4 ∷ 6 ∷ 16 ∷ []) (distanceRules B shown)
 unfolding distanceRules
-distance-numbers B shown = record { in-turn = (refl, (refl, (refl, (its-place 4, (its-place 6, tt))))) }
+distance-numbers B shown = record { in-turn = (refl, (refl, (refl, (its-place 4, (its-place 6, (its-place 16, tt)))))) }
 
 pub decode-numbers : (X : Sheet) (support correction : List ℕ)
-    → Numbered (1 ∷ 2 ∷ 3 ∷ 4 ∷ 6 ∷ 7 ∷ 8 ∷ []) (decodeRules X support correction)
+    → Numbered (1 ∷ 2 ∷ 3 ∷ 4 ∷ 6 ∷ 7 ∷ 8 ∷ 16 ∷ 17 ∷ []) (decodeRules X support correction)
 unfolding decodeRules
 decode-numbers X support correction =
-    record { in-turn = (refl, (refl, (refl, (its-place 4, (its-place 6, (its-place 7, (its-place 8, tt))))))) }
+    record { in-turn = (refl, (refl, (refl, (its-place 4, (its-place 6, (its-place 7, (its-place 8, (its-place 16, (its-place 17, tt))))))))) }
 
-pub verdict-numbers : (X : Sheet) (handed : List ℕ) → Numbered (1 ∷ 2 ∷ 3 ∷ 4 ∷ 6 ∷ 7 ∷ 8 ∷ 9 ∷ []) (verdictRules X handed)
+pub verdict-numbers : (X : Sheet) (handed : List ℕ) → Numbered (1 ∷ 2 ∷ 3 ∷ 4 ∷ 6 ∷ 7 ∷ 8 ∷ 9 ∷ 16 ∷ 17 ∷ []) (verdictRules X handed)
 unfolding verdictRules
 verdict-numbers X handed =
-    record { in-turn = (refl, (refl, (refl, (its-place 4, (its-place 6, (its-place 7, (its-place 8, (its-place 9, tt)))))))) }
+    record { in-turn = (refl, (refl, (refl, (its-place 4, (its-place 6, (its-place 7, (its-place 8, (its-place 9, (its-place 16, (its-place 17, tt)))))))))) }
 
 pub torus-numbers : (L : ℕ) (ends marks : List ℕ) → Numbered (11 ∷ 3 ∷ []) (torusRules L ends marks)
 unfolding torusRules
 torus-numbers L ends marks = record { in-turn = (refl, (refl, tt)) }
+
+pub planar-numbers : (L : ℕ) (ends marks opened : List ℕ) → Numbered (18 ∷ 3 ∷ []) (planarRules L ends marks opened)
+unfolding planarRules
+planar-numbers L ends marks opened = record { in-turn = (refl, (refl, tt)) }
 
 pub read-numbers : (text : List ℕ) (old : Buffers) → Numbered (3 ∷ 12 ∷ []) (readRules text old)
 unfolding readRules
 read-numbers text old = record { in-turn = (refl, (refl, tt)) }
 
 pub write-numbers : (X : Sheet) (buffer : List ℕ)
-    → Numbered (1 ∷ 2 ∷ 3 ∷ 4 ∷ 6 ∷ 7 ∷ 8 ∷ 12 ∷ 14 ∷ []) (writeRules X buffer)
+    → Numbered (1 ∷ 2 ∷ 3 ∷ 4 ∷ 6 ∷ 7 ∷ 8 ∷ 16 ∷ 17 ∷ 12 ∷ 14 ∷ []) (writeRules X buffer)
 unfolding writeRules
 write-numbers X buffer =
-    record { in-turn = (refl, (refl, (refl, (its-place 4, (its-place 6, (its-place 7, (its-place 8, (refl, (refl, tt))))))))) }
+    record { in-turn = (refl, (refl, (refl, (its-place 4, (its-place 6, (its-place 7, (its-place 8, (its-place 16, (its-place 17, (refl, (refl, tt))))))))))) }

@@ -1,4 +1,4 @@
--- Document 01, "Peeling", and document 02, K2 and K8: what decoding returns and writes, and when there is no correction.
+-- Document 01, "Peeling", and document 02, K2, K5 and K8: what decoding returns and writes, and when there is no correction.
 -- Assumes nothing.
 use Prim.Native.Nat.{ℕ}
 use mathlib.Core.Bool.{Bool, true}
@@ -15,7 +15,7 @@ use Rattle.model.specs.Correction.{correction}
 unfoldable pub parts : Board → List ℕ
 parts B = labels B (λ e. true)
 
--- v lies in an odd part: the connected component of v in the whole board has an odd number of vertices in S
+-- v lies in an odd part: the connected component of v in the whole board has an odd number of vertices in S, and no open vertex (K5)
 unfoldable pub inOddPart : Board → Set → ℕ → Bool
 inOddPart B S v = inOdd B (parts B) S v
 

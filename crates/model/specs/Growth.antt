@@ -1,4 +1,4 @@
--- Document 01, "Growth", steps 1 to 4: the weighted growth of source document 000 (its sections 2, 4 and 5). The steps settle what
+-- Document 01, "Growth", steps 1 to 4, and document 02, K5: the weighted growth of source document 000 (its sections 2, 4 and 5). The steps settle what
 -- that text leaves open, ties and the unit of work. Which clusters grow is a policy by itself, of which `Rounds` has another.
 -- Assumes nothing.
 use Prim.Native.Nat.{ℕ, zero, suc, _+_, _*_, min}
@@ -8,7 +8,7 @@ use mathlib.Core.Option.{Option, none, some}
 use lib.ListN.{getD}
 use lib.Dec.{eqb, ltb}
 use Rattle.model.specs.Sums.{Set, bit, oddUpTo, countUpTo, someUpTo, values}
-use Rattle.model.specs.Board.{Board, edges, firstEnd, secondEnd}
+use Rattle.model.specs.Board.{Board, edges, firstEnd, secondEnd, isOpen}
 use Rattle.model.specs.Syndrome.{touches}
 use Rattle.model.specs.Components.{labels, label, within}
 
@@ -24,9 +24,17 @@ full s e = eqb (getD s e 0) 2
 unfoldable pub clusters : Board → List ℕ → List ℕ
 clusters B s = labels B (full s)
 
--- Step 2: cluster a is odd, by the parity of its syndrome vertices. A label that no vertex has is never odd.
+-- Step 2: cluster a holds an odd number of the vertices of S. A label that no vertex has is that of an empty cluster.
+unfoldable pub oddlyLit : Board → List ℕ → Set → ℕ → Bool
+oddlyLit B l S a = oddUpTo (B .vertices) (λ v. S v && within l a v)
+
+-- K5: cluster a holds an open vertex.
+unfoldable pub holdsOpen : Board → List ℕ → ℕ → Bool
+holdsOpen B l a = someUpTo (B .vertices) (λ v. isOpen B v && within l a v)
+
+-- Step 2: cluster a is odd, by the parity of its syndrome vertices; with an open vertex (K5) it never is.
 unfoldable pub odd : Board → List ℕ → Set → ℕ → Bool
-odd B l S a = oddUpTo (B .vertices) (λ v. S v && within l a v)
+odd B l S a = oddlyLit B l S a && not (holdsOpen B l a)
 
 -- v lies in an odd cluster
 abbrev pub inOdd : Board → List ℕ → Set → Set

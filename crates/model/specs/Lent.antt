@@ -17,8 +17,8 @@ abbrev pub after : {A : Type 0} → Lent A → List A
 after l = now (l .exit)
 
 -- the board and the sheet that are lent, as they are when the call begins
-abbrev pub boardLent : ℕ → Lent ℕ → Lent ℕ → Board
-boardLent n ends marks = boardOf n (before ends) (before marks)
+abbrev pub boardLent : ℕ → Lent ℕ → Lent ℕ → Lent ℕ → Board
+boardLent n ends marks opened = boardOf n (before ends) (before marks) (before opened)
 
-abbrev pub sheetLent : ℕ → Lent ℕ → Lent ℕ → Lent ℕ → Lent ℕ → Sheet
-sheetLent n ends marks syndrome loss = sheetOf (boardLent n ends marks) (before syndrome) (before loss)
+abbrev pub sheetLent : ℕ → Lent ℕ → Lent ℕ → Lent ℕ → Lent ℕ → Lent ℕ → Sheet
+sheetLent n ends marks opened syndrome loss = sheetOf (boardLent n ends marks opened) (before syndrome) (before loss)

@@ -12,7 +12,9 @@ pub mod Decoding
 pub mod Demand3
 pub mod Verdict
 pub mod Distance
+pub mod Identified
 pub mod Torus
+pub mod Planar
 pub mod Refusals
 pub mod Precedence
 pub mod Outcomes

@@ -11,14 +11,14 @@ use lib.Dec.{eqb}
 use Rattle.model.specs.declared.answers.Decoded.the-variants.{Key, Refused}
 use Rattle.model.specs.declared.answers.RoundsDecoded.the-variants as inRounds
 use Rattle.model.specs.Sums.{Set, oddUpTo, countUpTo, someUpTo, firstUpTo, values, ones, bytes, members}
-use Rattle.model.specs.Board.{Board, Sheet, edges}
-use Rattle.model.specs.Syndrome.{syndrome}
+use Rattle.model.specs.Board.{Board, withoutOpen, Sheet, edges}
+use Rattle.model.specs.Syndrome.{oddEnd, syndrome}
 use Rattle.model.specs.Winding.{closed, crossings, winds, together}
 use Rattle.model.specs.Components.{labelsUpTo, labels}
-use Rattle.model.specs.Growth.{start, full, clusters, odd, exposed, boundary, choiceUpTo, choice, swell, grow, weighted, growFrom, grown}
+use Rattle.model.specs.Growth.{start, full, clusters, oddlyLit, holdsOpen, odd, exposed, boundary, choiceUpTo, choice, swell, grow, weighted, growFrom, grown}
 use Rattle.model.specs.Rounds.{allOdd}
 use Rattle.model.specs.Forest.{takenUpTo, forest}
-use Rattle.model.specs.Correction.{oddSide, correction}
+use Rattle.model.specs.Correction.{oddSide, spanned, oddEnds, correction}
 use Rattle.model.specs.Decoding.{parts, inOddPart, smallestOdd, grownBy, peeled, supports, corrected, roundSupports, roundCorrected}
 use Rattle.model.specs.Demand3.{lostEdges, keptEdges}
 use Rattle.model.specs.Distance.{fewestFrom, fewest}
@@ -43,31 +43,31 @@ blank X = replicate (edges (X .board)) 0
 
 -- Ring: the board of the text example.
 abbrev pub ring : Board
-ring = record { vertices = 4; ends = 0 ∷ 1 ∷ 1 ∷ 2 ∷ 2 ∷ 3 ∷ 3 ∷ 0 ∷ []; marks = 0 ∷ 0 ∷ 0 ∷ 1 ∷ [] }
+ring = withoutOpen 4 (0 ∷ 1 ∷ 1 ∷ 2 ∷ 2 ∷ 3 ∷ 3 ∷ 0 ∷ []) (0 ∷ 0 ∷ 0 ∷ 1 ∷ [])
 
 -- P: vertices 0 to 3, edges 0-1, 1-2, 2-3, marks 0.
 abbrev pub path : Board
-path = record { vertices = 4; ends = 0 ∷ 1 ∷ 1 ∷ 2 ∷ 2 ∷ 3 ∷ []; marks = 0 ∷ 0 ∷ 0 ∷ [] }
+path = withoutOpen 4 (0 ∷ 1 ∷ 1 ∷ 2 ∷ 2 ∷ 3 ∷ []) (0 ∷ 0 ∷ 0 ∷ [])
 
 -- m8: two vertices, edges 0-1 with marks 0 and 1.
 abbrev pub pair : Board
-pair = record { vertices = 2; ends = 0 ∷ 1 ∷ 0 ∷ 1 ∷ []; marks = 0 ∷ 1 ∷ [] }
+pair = withoutOpen 2 (0 ∷ 1 ∷ 0 ∷ 1 ∷ []) (0 ∷ 1 ∷ [])
 
 -- m9: one vertex, no edge.
 abbrev pub point : Board
-point = record { vertices = 1; ends = []; marks = [] }
+point = withoutOpen 1 [] []
 
 -- K2: vertex 0 alone, and the edges 2-1 and 4-3, marks 0.
 abbrev pub twoEdges : Board
-twoEdges = record { vertices = 5; ends = 2 ∷ 1 ∷ 4 ∷ 3 ∷ []; marks = 0 ∷ 0 ∷ [] }
+twoEdges = withoutOpen 5 (2 ∷ 1 ∷ 4 ∷ 3 ∷ []) (0 ∷ 0 ∷ [])
 
 -- K3: the edge 0-1, mark 0, between a loop edge at 0, mark 1, and one at 1, mark 2.
 abbrev pub looped : Board
-looped = record { vertices = 2; ends = 0 ∷ 0 ∷ 0 ∷ 1 ∷ 1 ∷ 1 ∷ []; marks = 1 ∷ 0 ∷ 2 ∷ [] }
+looped = withoutOpen 2 (0 ∷ 0 ∷ 0 ∷ 1 ∷ 1 ∷ 1 ∷ []) (1 ∷ 0 ∷ 2 ∷ [])
 
 -- K3: the torus of side 1, entry by entry
 abbrev pub sideOne : Board
-sideOne = record { vertices = 1; ends = 0 ∷ 0 ∷ 0 ∷ 0 ∷ []; marks = 1 ∷ 2 ∷ [] }
+sideOne = withoutOpen 1 (0 ∷ 0 ∷ 0 ∷ 0 ∷ []) (1 ∷ 2 ∷ [])
 
 -- the table answers with this many growths and this correction
 pub record Keyed (X : Sheet) (steps : ℕ) (edges : List ℕ) : Type 0 where
@@ -184,7 +184,7 @@ pub record MarkedSheets : Type 0 where
   pub side-one-distance : fewest sideOne ≡ some 1
 
 pub marked-sheets : MarkedSheets
-unfolding members setOf sheet oddUpTo countUpTo someUpTo firstUpTo values syndrome closed crossings winds labelsUpTo labels start clusters odd exposed boundary choiceUpTo choice swell weighted allOdd growFrom grown takenUpTo forest oddSide correction parts inOddPart smallestOdd grownBy peeled fewestFrom fewest torusEnds torusMarks torus decodeRefusal keyOrNone decodeAnswer roundsOrNone roundsAnswer
+unfolding members setOf sheet oddUpTo countUpTo someUpTo firstUpTo values oddEnd syndrome closed crossings winds labelsUpTo labels start clusters oddlyLit holdsOpen odd exposed boundary choiceUpTo choice swell weighted allOdd growFrom grown takenUpTo forest oddSide spanned oddEnds correction parts inOddPart smallestOdd grownBy peeled fewestFrom fewest torusEnds torusMarks torus decodeRefusal keyOrNone decodeAnswer roundsOrNone roundsAnswer
 marked-sheets =
     record {
       m1-key = record { answers = refl; corrects = refl };

@@ -1,4 +1,4 @@
--- Document 01, "How far contracts go", 1: the outcome of decoding, verdict, distance and torus, that is, what the call answers and what every
+-- Document 01, "How far contracts go", 1: the outcome of decoding, verdict, distance, torus and planar board, that is, what the call answers and what every
 -- lent buffer holds when it is over, also where it refuses. Reading and writing are in `TextOutcomes`.
 -- Assumes nothing.
 use Prim.Native.Nat.{ℕ, _*_}
@@ -24,7 +24,8 @@ use Rattle.model.specs.Demand3.{Demand3}
 use Rattle.model.specs.Verdict.{judged, SoundVerdict}
 use Rattle.model.specs.Distance.{fewest}
 use Rattle.model.specs.Torus.{torusEnds, torusMarks}
-use Rattle.model.specs.Refusals.{Test, oddPartTest, decodeRefusal, verdictRefusal, distanceRefusal, torusRefusal}
+use Rattle.model.specs.Planar.{planarVertices, planarEnds, planarMarks, planarOpens}
+use Rattle.model.specs.Refusals.{Test, oddPartTest, decodeRefusal, verdictRefusal, distanceRefusal, torusRefusal, planarRefusal}
 
 -- a call's answer: the refusal of the first test that fails, or else what follows
 abbrev pub answer : {A : Type 0} → Test → (Refusal → A) → A → A
@@ -111,3 +112,14 @@ pub record Builds (L : ℕ) (ends marks : List ℕ) (r : Built) (ends′ marks�
   pub result : r ≡ torusAnswer L ends marks
   pub ends-filled : ends′ ≡ builtOr r (torusEnds L) ends
   pub marks-filled : marks′ ≡ builtOr r (torusMarks L) marks
+
+-- The planar builder answers with the number of vertices, L(L + 1). Its buffers end as all ends, marks and open bytes, or as they were where
+-- it refuses.
+unfoldable pub planarAnswer : ℕ → List ℕ → List ℕ → List ℕ → Built
+planarAnswer L ends marks opened = answer (planarRefusal L ends marks opened) built.Refused (built.Vertices (planarVertices L))
+
+pub record BuildsPlanar (L : ℕ) (ends marks opened : List ℕ) (r : Built) (ends′ marks′ opened′ : List ℕ) : Type 0 where
+  pub result : r ≡ planarAnswer L ends marks opened
+  pub ends-filled : ends′ ≡ builtOr r (planarEnds L) ends
+  pub marks-filled : marks′ ≡ builtOr r (planarMarks L) marks
+  pub open-filled : opened′ ≡ builtOr r (planarOpens L) opened

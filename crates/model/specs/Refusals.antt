@@ -1,4 +1,4 @@
--- Document 01, "Numbers and places", and document 02, K3: the number and the place of each refusal, and the rules of each call in the order
+-- Document 01, "Numbers and places", and document 02, K3 and K5: the number and the place of each refusal, and the rules of each call in the order
 -- of their tests. No refusal has number 5, which was that of equal ends.
 -- Assumes nothing.
 use Prim.Native.Nat.{ℕ, _*_, _/_, _%_}
@@ -8,11 +8,12 @@ use mathlib.Core.Option.{Option, none, some}
 use lib.ListN.{length, getD}
 use lib.Dec.{eqb, leb, ltb}
 use Rattle.model.specs.declared.refusal.Refusal.{Refusal}
-use Rattle.model.specs.declared.refusal.Refusal.the-variants.{VertexCount, EndCount, BufferLength, EndRange, MarkRange, SyndromeByte, LossByte, HandedByte, NoCorrection, TorusSide, TextLength, MalformedLine, TextBuffer}
+use Rattle.model.specs.declared.refusal.Refusal.the-variants.{VertexCount, EndCount, BufferLength, EndRange, MarkRange, SyndromeByte, LossByte, HandedByte, NoCorrection, TorusSide, TextLength, MalformedLine, TextBuffer, OpenByte, LitOpen, PlanarSide}
 use Rattle.model.specs.Sums.{Set, ones, firstUpTo}
 use Rattle.model.specs.Board.{Board, Sheet, edges, firstEnd, secondEnd, vertexLimit, edgeLimit}
 use Rattle.model.specs.Decoding.{smallestOdd}
 use Rattle.model.specs.Torus.{leastSide, largestSide}
+use Rattle.model.specs.Planar.{leastPlanar, largestPlanar, planarVertices, planarEdges}
 
 -- the number of each refusal
 abbrev pub numberOf : Refusal → ℕ
@@ -29,6 +30,9 @@ numberOf (TorusSide side) = 11
 numberOf TextLength = 12
 numberOf (MalformedLine line) = 13
 numberOf TextBuffer = 14
+numberOf (OpenByte v) = 16
+numberOf (LitOpen v) = 17
+numberOf (PlanarSide side) = 18
 
 -- its place: an edge, a vertex, the side or a line; where the table of document 01 has place 0, 0
 abbrev pub placeOf : Refusal → ℕ
@@ -45,6 +49,9 @@ placeOf (TorusSide side) = side
 placeOf TextLength = 0
 placeOf (MalformedLine line) = line
 placeOf TextBuffer = 0
+placeOf (OpenByte v) = v .0
+placeOf (LitOpen v) = v .0
+placeOf (PlanarSide side) = side
 
 -- A rule is kept or not as a whole, or broken at some of n places; each way to break it has its refusal.
 pub data Rule : Type 0 where
@@ -120,6 +127,16 @@ lossRule l = each (length l) (above 1 l) (λ e. LossByte (record { 0 = e }))
 abbrev pub handedRule : List ℕ → Rule
 handedRule l = each (length l) (above 1 l) (λ e. HandedByte (record { 0 = e }))
 
+-- Rule 16: an open byte is at most 1. Rule 17: no open vertex is lit.
+abbrev pub openRule : List ℕ → Rule
+openRule l = each (length l) (above 1 l) (λ v. OpenByte (record { 0 = v }))
+
+abbrev pub litOpen : List ℕ → List ℕ → Set
+litOpen opened syndrome v = ones opened v && ones syndrome v
+
+abbrev pub litOpenRule : List ℕ → List ℕ → Rule
+litOpenRule opened syndrome = each (length opened) (litOpen opened syndrome) (λ v. LitOpen (record { 0 = v }))
+
 -- Number 10, a test and no rule of a list: some part of the whole board is odd; the place is the smallest vertex of all odd parts.
 abbrev pub noneAt : ℕ → Refusal
 noneAt v = NoCorrection (record { 0 = v })
@@ -130,6 +147,10 @@ oddPartTest X = refusedAt (smallestOdd (X .board) (ones (X .syndrome))) noneAt
 -- Rule 11: a torus has side 1 to 32; the place is the side that was asked for.
 abbrev pub sideRule : ℕ → Rule
 sideRule L = whole (leb leastSide L && leb L largestSide) (TorusSide L)
+
+-- Rule 18: a planar board has side 2 to 31; the place is the side that was asked for.
+abbrev pub planarSideRule : ℕ → Rule
+planarSideRule L = whole (leb leastPlanar L && leb L largestPlanar) (PlanarSide L)
 
 -- how many edges the ends stand for: what the other lengths are held to
 abbrev pub edgesOf : List ℕ → ℕ
@@ -143,9 +164,13 @@ countRules vertices ends fit = vertexCountRule vertices ∷ endCountRule ends �
 abbrev pub edgeRules : Board → List Rule
 edgeRules B = endRangeRule B ∷ markRule B ∷ []
 
--- a board; `others` says that each buffer lent beside it has its length
+-- there is a mark for each edge and an open byte for each vertex
+abbrev pub boardSized : Board → Bool
+boardSized B = sized (B .marks) (edgesOf (B .ends)) && sized (B .opened) (B .vertices)
+
+-- a board but for its open bytes; `others` says that each buffer lent beside it has its length
 unfoldable pub boardRules : Board → Bool → List Rule
-boardRules B others = countRules (B .vertices) (B .ends) (sized (B .marks) (edgesOf (B .ends)) && others) ++ edgeRules B
+boardRules B others = countRules (B .vertices) (B .ends) (boardSized B && others) ++ edgeRules B
 
 -- then the bytes of a sheet: 7 and 8
 abbrev pub byteRules : List ℕ → List ℕ → List Rule
@@ -155,10 +180,19 @@ byteRules syndrome loss = syndromeRule syndrome ∷ lossRule loss ∷ []
 abbrev pub bytesSized : Sheet → Bool
 bytesSized X = sized (X .syndrome) (X .board .vertices) && sized (X .loss) (edgesOf (X .board .ends))
 
--- a sheet; `others` says that each buffer lent beside it has its length
-unfoldable pub sheetRules : Sheet → Bool → List Rule
+-- a sheet but for its open bytes; `others` says that each buffer lent beside it has its length
+unfoldable pub plainRules : Sheet → Bool → List Rule
 unfolding boardRules
-sheetRules X others = boardRules (X .board) (bytesSized X && others) ++ byteRules (X .syndrome) (X .loss)
+plainRules X others = boardRules (X .board) (bytesSized X && others) ++ byteRules (X .syndrome) (X .loss)
+
+-- the open bytes of a sheet come after its other bytes and those handed in: 16 and 17
+abbrev pub openRules : Sheet → List Rule
+openRules X = openRule (X .board .opened) ∷ litOpenRule (X .board .opened) (X .syndrome) ∷ []
+
+-- a sheet with its open bytes
+unfoldable pub sheetRules : Sheet → Bool → List Rule
+unfolding plainRules
+sheetRules X others = plainRules X others ++ openRules X
 
 -- Each call's list covers all that it is lent. Decoding and the verdict test for number 10 as well, once all rules of their lists are kept: it
 -- asks for the parts of a board that keeps the rules. Decoding is lent a sheet and two buffers to fill.
@@ -174,8 +208,8 @@ decodeRefusal X support correction = refusalOf (decodeRules X support correction
 
 -- The verdict is lent a sheet and a handed-in set.
 unfoldable pub verdictRules : Sheet → List ℕ → List Rule
-unfolding sheetRules
-verdictRules X handed = sheetRules X (sized handed (edgesOf (X .board .ends))) ++ (handedRule handed ∷ [])
+unfolding plainRules
+verdictRules X handed = plainRules X (sized handed (edgesOf (X .board .ends))) ++ (handedRule handed ∷ openRules X)
 
 unfoldable pub verdictRefusal : Sheet → List ℕ → Test
 unfolding verdictRules
@@ -184,7 +218,7 @@ verdictRefusal X handed = refusalOf (verdictRules X handed)
 -- The distance is lent a board and a buffer for the loop shown.
 unfoldable pub distanceRules : Board → List ℕ → List Rule
 unfolding boardRules
-distanceRules B shown = boardRules B (sized shown (edgesOf (B .ends)))
+distanceRules B shown = boardRules B (sized shown (edgesOf (B .ends))) ++ (openRule (B .opened) ∷ [])
 
 unfoldable pub distanceRefusal : Board → List ℕ → Test
 unfolding distanceRules
@@ -201,3 +235,14 @@ torusRules L ends marks =
 unfoldable pub torusRefusal : ℕ → List ℕ → List ℕ → Test
 unfolding torusRules
 torusRefusal L ends marks = refusalOf (torusRules L ends marks)
+
+-- The planar builder likewise, with buffers for all ends, marks and open bytes.
+unfoldable pub planarRules : ℕ → List ℕ → List ℕ → List ℕ → List Rule
+planarRules L ends marks opened =
+    planarSideRule L
+    ∷ lengthRule (sized ends (2 * planarEdges L) && sized marks (planarEdges L) && sized opened (planarVertices L))
+    ∷ []
+
+unfoldable pub planarRefusal : ℕ → List ℕ → List ℕ → List ℕ → Test
+unfolding planarRules
+planarRefusal L ends marks opened = refusalOf (planarRules L ends marks opened)

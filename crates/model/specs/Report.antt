@@ -57,7 +57,7 @@ keyReport X =
     ++ edgeLines (members (edges (X .board)) (corrected X))
     ++ distanceLine (fewest (X .board))
 
--- a sheet that was read breaks none of the rules up to 8: number 10, or its key
+-- a sheet that was read breaks none of the rules: number 10, or its key
 unfoldable pub sheetReport : Sheet → List ℕ
 sheetReport X = answer (oddPartTest X) refusalLine (keyReport X)
 

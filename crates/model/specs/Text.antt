@@ -1,7 +1,7 @@
--- Document 01, "Text", and document 02, K3: the one text of a sheet, and the reading of a text line by line.
+-- Document 01, "Text", and document 02, K3 and K5: the one text of a sheet, and the reading of a text line by line.
 -- A text is a list of bytes. Assumes nothing.
 use Prim.Native.Nat.{ℕ, zero, suc, _+_, _*_, _-_, _/_, _%_}
-use mathlib.Core.Bool.{Bool, true, false, cond, _&&_}
+use mathlib.Core.Bool.{Bool, true, false, cond, not, _&&_}
 use mathlib.Core.List.{List, [], _∷_, _++_, map}
 use mathlib.Core.Option.{Option, none, some}
 use lib.ListN.{set, replicate}
@@ -9,7 +9,7 @@ use lib.Dec.{eqb, leb, ltb}
 use Rattle.model.specs.declared.refusal.Refusal.{Refusal}
 use Rattle.model.specs.declared.refusal.Refusal.the-variants.{MalformedLine}
 use Rattle.model.specs.Sums.{values, ones, members}
-use Rattle.model.specs.Board.{Board, Sheet, edges, firstEnd, secondEnd, mark, vertexLimit, edgeLimit}
+use Rattle.model.specs.Board.{Board, boardOf, withoutOpen, Sheet, sheetOf, edges, firstEnd, secondEnd, mark, isOpen, vertexLimit, edgeLimit}
 
 -- the bytes that part lines and fields, and that of the digit 0
 abbrev pub newline : ℕ
@@ -21,11 +21,12 @@ tab = 9
 abbrev pub digitZero : ℕ
 digitZero = 48
 
--- The four kinds of line, by their letters: `V` has the number of vertices, `E` the ends and the mark of an edge, `S` a vertex of the syndrome,
--- `X` an edge that is lost.
+-- The five kinds of line, by their letters: `V` has the number of vertices, `E` the ends and the mark of an edge, `O` an open vertex, `S` a
+-- vertex of the syndrome, `X` an edge that is lost.
 pub data Line : Type 0 where
   V-line : ℕ → Line
   E-line : ℕ → ℕ → ℕ → Line
+  O-line : ℕ → Line
   S-line : ℕ → Line
   X-line : ℕ → Line
 
@@ -36,6 +37,9 @@ letterV = 86
 abbrev pub letterE : ℕ
 letterE = 69
 
+abbrev pub letterO : ℕ
+letterO = 79
+
 abbrev pub letterS : ℕ
 letterS = 83
 
@@ -45,12 +49,14 @@ letterX = 88
 abbrev pub letterOf : Line → ℕ
 letterOf (V-line n) = letterV
 letterOf (E-line a b m) = letterE
+letterOf (O-line v) = letterO
 letterOf (S-line v) = letterS
 letterOf (X-line e) = letterX
 
 abbrev pub numbersOf : Line → List ℕ
 numbersOf (V-line n) = n ∷ []
 numbersOf (E-line a b m) = a ∷ b ∷ m ∷ []
+numbersOf (O-line v) = v ∷ []
 numbersOf (S-line v) = v ∷ []
 numbersOf (X-line e) = e ∷ []
 
@@ -85,13 +91,14 @@ printed (l ∷ ls) = bytesOf l ++ newline ∷ printed ls
 abbrev pub edgeLine : Board → ℕ → Line
 edgeLine B e = E-line (firstEnd B e) (secondEnd B e) (mark B e)
 
--- The lines of a sheet: one `V` line, then the edges as `E` lines by their numbers, then the syndrome as `S` lines and the loss as `X` lines,
--- both rising.
+-- The lines of a sheet: one `V` line, then the edges as `E` lines by their numbers, then the open vertices as `O` lines, the syndrome as `S`
+-- lines and the loss as `X` lines, each rising.
 unfoldable pub linesOf : Sheet → List Line
 linesOf sheet =
     let B = sheet .board in
     V-line (B .vertices)
     ∷ values (edges B) (edgeLine B)
+    ++ map O-line (members (B .vertices) (isOpen B))
     ++ map S-line (members (B .vertices) (ones (sheet .syndrome)))
     ++ map X-line (members (edges B) (ones (sheet .loss)))
 
@@ -138,8 +145,9 @@ abbrev pub lineOf : ℕ → List ℕ → Option Line
 lineOf letter [] = none
 lineOf letter (n ∷ []) =
     cond (eqb letter letterV) (some (V-line n))
+    (cond (eqb letter letterO) (some (O-line n))
     (cond (eqb letter letterS) (some (S-line n))
-    (cond (eqb letter letterX) (some (X-line n)) none))
+    (cond (eqb letter letterX) (some (X-line n)) none)))
 lineOf letter (a ∷ b ∷ []) = none
 lineOf letter (a ∷ b ∷ m ∷ []) = cond (eqb letter letterE) (some (E-line a b m)) none
 lineOf letter (a ∷ b ∷ m ∷ n ∷ ns) = none
@@ -167,21 +175,24 @@ abbrev pub orMalformed : {A : Type 0} → ℕ → Option A → (A → Read) → 
 orMalformed k none go = refused (MalformedLine k)
 orMalformed k (some a) go = go a
 
--- The first line and no other is a `V` line (`step`), with 1 to 1,024 vertices. The sheet then has no edge as yet, and an empty syndrome.
+-- The first line and no other is a `V` line (`step`), with 1 to 1,024 vertices. The sheet then has no edge as yet, no open vertex, and an
+-- empty syndrome.
 abbrev pub firstLine : Line → Option ℕ
 firstLine (V-line n) = cond (leb 1 n && leb n vertexLimit) (some n) none
 firstLine (E-line a b m) = none
+firstLine (O-line v) = none
 firstLine (S-line v) = none
 firstLine (X-line e) = none
 
 abbrev pub begun : ℕ → Sheet
-begun n = record { board = record { vertices = n; ends = []; marks = [] }; syndrome = replicate n 0; loss = [] }
+begun n = sheetOf (withoutOpen n [] []) (replicate n 0) []
 
 -- `E` lines follow the `V` line or one another, at most 4,096 of them; equal ones are parallel edges. The ends are two vertices, or one vertex
 -- twice (a loop edge), and the mark is at most 3.
 abbrev pub edgeMayFollow : Line → Bool
 edgeMayFollow (V-line n) = true
 edgeMayFollow (E-line a b m) = true
+edgeMayFollow (O-line v) = false
 edgeMayFollow (S-line v) = false
 edgeMayFollow (X-line e) = false
 
@@ -192,39 +203,57 @@ edgeInRange B a b m =
 abbrev pub withEdge : Sheet → ℕ → ℕ → ℕ → Sheet
 withEdge sheet a b m =
     let B = sheet .board in
-    record {
-      board = record { vertices = B .vertices; ends = B .ends ++ (a ∷ b ∷ []); marks = B .marks ++ (m ∷ []) };
-      syndrome = sheet .syndrome;
-      loss = sheet .loss ++ (0 ∷ []);
-    }
+    sheetOf (boardOf (B .vertices) (B .ends ++ (a ∷ b ∷ [])) (B .marks ++ (m ∷ [])) (B .opened)) (sheet .syndrome) (sheet .loss ++ (0 ∷ []))
 
--- An `S` line may follow any line but an `X` line. Its vertex is above that of an `S` line right before it, so none is named twice.
+-- An `O` line may follow the `V` line, an `E` line or another `O` line. Its vertex is above that of an `O` line right before it, so none is
+-- named twice.
+abbrev pub openMayFollow : Line → ℕ → Bool
+openMayFollow (V-line n) v = true
+openMayFollow (E-line a b m) v = true
+openMayFollow (O-line u) v = ltb u v
+openMayFollow (S-line u) v = false
+openMayFollow (X-line e) v = false
+
+abbrev pub withOpen : Sheet → ℕ → Sheet
+withOpen sheet v =
+    let B = sheet .board in
+    sheetOf (boardOf (B .vertices) (B .ends) (B .marks) (set (B .opened) v 1)) (sheet .syndrome) (sheet .loss)
+
+-- An `S` line may follow any line but an `X` line. Its vertex is not open, and above that of an `S` line right before it, so none is named
+-- twice.
 abbrev pub syndromeMayFollow : Line → ℕ → Bool
 syndromeMayFollow (V-line n) v = true
 syndromeMayFollow (E-line a b m) v = true
+syndromeMayFollow (O-line u) v = true
 syndromeMayFollow (S-line u) v = ltb u v
 syndromeMayFollow (X-line e) v = false
 
+abbrev pub mayBeLit : Board → ℕ → Bool
+mayBeLit B v = ltb v (B .vertices) && not (isOpen B v)
+
 abbrev pub withSyndrome : Sheet → ℕ → Sheet
-withSyndrome sheet v = record { board = sheet .board; syndrome = set (sheet .syndrome) v 1; loss = sheet .loss }
+withSyndrome sheet v = sheetOf (sheet .board) (set (sheet .syndrome) v 1) (sheet .loss)
 
 -- An `X` line may follow any line. Its edge is above that of an `X` line right before it, so none is named twice.
 abbrev pub lossMayFollow : Line → ℕ → Bool
 lossMayFollow (V-line n) e = true
 lossMayFollow (E-line a b m) e = true
+lossMayFollow (O-line v) e = true
 lossMayFollow (S-line v) e = true
 lossMayFollow (X-line d) e = ltb d e
 
 abbrev pub withLoss : Sheet → ℕ → Sheet
-withLoss sheet e = record { board = sheet .board; syndrome = sheet .syndrome; loss = set (sheet .loss) e 1 }
+withLoss sheet e = sheetOf (sheet .board) (sheet .syndrome) (set (sheet .loss) e 1)
 
 -- the sheet with one line more, where that line may follow the last one and its fields are in range
 unfoldable pub step : Sheet → Line → Line → Option Sheet
 step sheet last (V-line n) = none
 step sheet last (E-line a b m) =
     cond (edgeMayFollow last && edgeInRange (sheet .board) a b m) (some (withEdge sheet a b m)) none
+step sheet last (O-line v) =
+    cond (openMayFollow last v && ltb v (sheet .board .vertices)) (some (withOpen sheet v)) none
 step sheet last (S-line v) =
-    cond (syndromeMayFollow last v && ltb v (sheet .board .vertices)) (some (withSyndrome sheet v)) none
+    cond (syndromeMayFollow last v && mayBeLit (sheet .board) v) (some (withSyndrome sheet v)) none
 step sheet last (X-line e) =
     cond (lossMayFollow last e && ltb e (edges (sheet .board))) (some (withLoss sheet e)) none
 

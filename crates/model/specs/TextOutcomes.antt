@@ -32,24 +32,26 @@ textBufferRule text buffer = whole (leb (length text) (length buffer)) TextBuffe
 abbrev pub over : List ℕ → List ℕ → List ℕ
 over new old = new ++ drop (length new) old
 
--- The reader fills four lent buffers.
+-- The reader fills five lent buffers.
 pub record Buffers : Type 0 where
   pub ends : List ℕ
   pub marks : List ℕ
+  pub opened : List ℕ
   pub syndrome : List ℕ
   pub loss : List ℕ
 
 -- what is lent, slice by slice, as one value
-abbrev pub buffersOf : List ℕ → List ℕ → List ℕ → List ℕ → Buffers
-buffersOf ends marks syndrome loss = record { ends = ends; marks = marks; syndrome = syndrome; loss = loss }
+abbrev pub buffersOf : List ℕ → List ℕ → List ℕ → List ℕ → List ℕ → Buffers
+buffersOf ends marks opened syndrome loss = record { ends = ends; marks = marks; opened = opened; syndrome = syndrome; loss = loss }
 
--- They have room for the largest board, whatever the text: 8,192 places for ends, 4,096 for marks, 1,024 for the syndrome and 4,096 for the loss.
--- Any other length, also a larger one, is 3.
+-- They have room for the largest board, whatever the text: 8,192 places for ends, 4,096 for marks, 1,024 for open bytes, 1,024 for the
+-- syndrome and 4,096 for the loss. Any other length, also a larger one, is 3.
 unfoldable pub readRules : List ℕ → Buffers → List Rule
 readRules text old =
     lengthRule
     (sized (old .ends) (2 * edgeLimit)
     && sized (old .marks) edgeLimit
+    && sized (old .opened) vertexLimit
     && sized (old .syndrome) vertexLimit
     && sized (old .loss) edgeLimit)
     ∷ textRule text
@@ -74,6 +76,7 @@ filled (complete sheet) old =
     record {
       ends = over (sheet .board .ends) (old .ends);
       marks = over (sheet .board .marks) (old .marks);
+      opened = over (sheet .board .opened) (old .opened);
       syndrome = over (sheet .syndrome) (old .syndrome);
       loss = over (sheet .loss) (old .loss);
     }

@@ -6,7 +6,7 @@ use mathlib.Core.Bool.{cond}
 use mathlib.Core.List.{List}
 use lib.Dec.{eqb}
 use Rattle.model.specs.Sums.{values}
-use Rattle.model.specs.Board.{Board}
+use Rattle.model.specs.Board.{Board, withoutOpen}
 
 -- the sides of the tori that are built
 abbrev pub leastSide : ℕ
@@ -52,5 +52,6 @@ torusEnds L = values (4 * (L * L)) (torusEnd L)
 unfoldable pub torusMarks : ℕ → List ℕ
 torusMarks L = values (2 * (L * L)) (torusMark L)
 
+-- no vertex of it is open
 unfoldable pub torus : ℕ → Board
-torus L = record { vertices = L * L; ends = torusEnds L; marks = torusMarks L }
+torus L = withoutOpen (L * L) (torusEnds L) (torusMarks L)

@@ -1,4 +1,5 @@
--- Document 01, "Board and loops": closed sets (cycles modulo 2) and winding sets (cycles whose marks do not cancel).
+-- Document 01, "Board and loops": closed sets (cycles modulo 2) and winding sets (cycles whose marks do not cancel). With document 02, K5, a
+-- closed set may end at open vertices, so that what runs from open side to open side may wind too.
 -- Assumes nothing.
 use Prim.Native.Nat.{ℕ, _+_, _*_, _/_, _%_}
 use mathlib.Core.Bool.{Bool, not, _&&_}
@@ -7,7 +8,7 @@ use Rattle.model.specs.Sums.{Set, _⊕_, bit, oddUpTo, countUpTo, someUp
 use Rattle.model.specs.Board.{Board, edges, mark}
 use Rattle.model.specs.Syndrome.{syndrome}
 
--- D is closed, a cycle modulo 2: every vertex has even degree in it
+-- D is closed, a cycle modulo 2: every vertex that is not open has even degree in it
 unfoldable pub closed : Board → Set → Bool
 closed B D = not (someUpTo (B .vertices) (syndrome B D))
 

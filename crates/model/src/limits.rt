@@ -16,3 +16,8 @@ pub const TEXT: usize = 65536;
 pub const LEAST_SIDE: usize = 1;
 
 pub const LARGEST_SIDE: usize = 32;
+
+// The smallest and the largest side of a planar board that is built.
+pub const LEAST_PLANAR: usize = 2;
+
+pub const LARGEST_PLANAR: usize = 31;

@@ -3,7 +3,8 @@ use crate::numbers::Vertex;
 ghost use mathlib.Core.Path.{_≡_};
 ghost use Rattle.model.specs.Refusals.{numberOf, placeOf};
 
-// Why a call refuses, with the place at which the rule is broken. The order is that of the numbers, from 1; no refusal has number 5.
+// Why a call refuses, with the place at which the rule is broken. The order is that of the numbers, from 1; no refusal has number 5, and
+// none 15.
 pub enum Refusal {
     VertexCount,
     EndCount,
@@ -18,6 +19,9 @@ pub enum Refusal {
     TextLength,
     MalformedLine(usize),
     TextBuffer,
+    OpenByte(Vertex),
+    LitOpen(Vertex),
+    PlanarSide(usize),
 }
 
 // The refusal's number.
@@ -38,6 +42,9 @@ pub fn number(refusal: Refusal) -> u8
         Refusal::TextLength => 12,
         Refusal::MalformedLine(_) => 13,
         Refusal::TextBuffer => 14,
+        Refusal::OpenByte(_) => 16,
+        Refusal::LitOpen(_) => 17,
+        Refusal::PlanarSide(_) => 18,
     }
 }
 
@@ -59,5 +66,8 @@ pub fn place(refusal: Refusal) -> usize
         Refusal::TextLength => 0,
         Refusal::MalformedLine(line) => line,
         Refusal::TextBuffer => 0,
+        Refusal::OpenByte(v) => v.0 as usize,
+        Refusal::LitOpen(v) => v.0 as usize,
+        Refusal::PlanarSide(side) => side,
     }
 }

@@ -6,7 +6,7 @@ use mathlib.Core.List.{List}
 use native.Mathlib.Nat.{le-of-eq}
 use native.Mathlib.Numerals.{add-one}
 use lib.ListN.{getD, replicate, length-replicate}
-use Rattle.model.specs.Board.{EndsWithin, unmarked, vertexLimit}
+use Rattle.model.specs.Board.{EndsWithin, plain, vertexLimit}
 use Rattle.model.specs.Components.{labels}
 use Rattle.model.specs.Decoding.{parts}
 use Rattle.model.specs.Refusals.{edgesOf}
@@ -28,7 +28,7 @@ fresh-room m limit fits =
 -- at first every vertex is alone
 pub connects-none : {n : ℕ} {ends p s : List ℕ} → Alone n p s → ConnectsUpTo n ends 0 p s
 connects-none {n} {ends} w =
-    record { trees = alone-trees w; mirrors = mirrors-alone (unmarked n (edgesOf ends) ends) (λ e. true) w }
+    record { trees = alone-trees w; mirrors = mirrors-alone (plain n (edgesOf ends) ends) (λ e. true) w }
 
 -- then each edge joins its ends
 pub connects-more :
@@ -36,7 +36,7 @@ pub connects-more :
     → a ≡ getD ends (2 * e) 0 → b ≡ getD ends (2 * e + 1) 0 → {r : Joined} {p′ s′ : List ℕ} → Joins p s a b r p′ s′
     → ConnectsUpTo n ends (e + 1) p′ s′
 connects-more {n} {e} {ends = ends} w h c first second k =
-    let B = unmarked n (edgesOf ends) ends in
+    let B = plain n (edgesOf ends) ends in
     let joins = rw (first, second) at k in
     let long = le-of-eq (sym (labels-length B (λ e. true) e)) in
     rw (add-one e)

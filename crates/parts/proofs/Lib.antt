@@ -1,4 +1,5 @@
 pub mod Rooting
 pub mod Connecting
 pub mod Flipping
+pub mod Clearing
 pub mod Marking

@@ -3,7 +3,7 @@
 use Prim.Native.Nat.{ℕ}
 use mathlib.Core.Bool.{true}
 use mathlib.Core.List.{List}
-use Rattle.model.specs.Board.{unmarked}
+use Rattle.model.specs.Board.{plain}
 use Rattle.model.specs.Components.{labelsUpTo}
 use Rattle.model.specs.Decoding.{parts}
 use Rattle.model.specs.Refusals.{edgesOf}
@@ -13,9 +13,9 @@ use Rattle.union_find.specs.Joining.{Mirrors}
 -- the trees are the parts by the first k edges
 pub record ConnectsUpTo (n : ℕ) (ends : List ℕ) (k : ℕ) (parent size : List ℕ) : Type 0 where
   pub trees : Trees n parent size
-  pub mirrors : Mirrors n parent (labelsUpTo (unmarked n (edgesOf ends) ends) (λ e. true) k)
+  pub mirrors : Mirrors n parent (labelsUpTo (plain n (edgesOf ends) ends) (λ e. true) k)
 
 -- the trees are the parts of the whole board
 pub record Connects (n : ℕ) (ends parent : List ℕ) : Type 0 where
   pub rooted : Rooted n parent
-  pub mirrors : Mirrors n parent (parts (unmarked n (edgesOf ends) ends))
+  pub mirrors : Mirrors n parent (parts (plain n (edgesOf ends) ends))

@@ -2,11 +2,11 @@
 -- Assumes nothing.
 use Prim.Native.Nat.{ℕ, _<_}
 use mathlib.Core.Path.{_≡_}
-use mathlib.Core.Bool.{Bool, _&&_}
+use mathlib.Core.Bool.{Bool, cond, _&&_}
 use mathlib.Core.List.{List}
 use lib.ListN.{length, getD}
 use lib.Dec.{eqb}
-use Rattle.model.specs.Sums.{Set, bit, ones, oddUpTo}
+use Rattle.model.specs.Sums.{Set, bit, ones, oddUpTo, someUpTo}
 use Rattle.model.specs.Board.{vertexLimit}
 use Rattle.union_find.specs.Trees.{rootOf, Rooted}
 
@@ -27,3 +27,12 @@ marked parent odd v = ones odd (rootOf parent v)
 pub record Marked (n : ℕ) (parent odd : List ℕ) : Type 0 where
   pub rooted : Rooted n parent
   pub long : length odd ≡ vertexLimit
+
+-- some of the first k vertices is open and has the root r
+abbrev pub openAtRoot : ℕ → List ℕ → List ℕ → ℕ → Bool
+openAtRoot k parent opened r = someUpTo k (λ v. ones opened v && eqb (rootOf parent v) r)
+
+-- then entry r becomes 0
+pub record Cleared (k : ℕ) (parent opened odd odd′ : List ℕ) : Type 0 where
+  pub long : length odd′ ≡ vertexLimit
+  pub at : (r : ℕ) → r < vertexLimit → getD odd′ r 0 ≡ cond (openAtRoot k parent opened r) 0 (getD odd r 0)

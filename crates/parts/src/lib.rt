@@ -1,4 +1,5 @@
-// The connected parts of the whole board, and the vertex of number 10: the smallest of all parts that hold an odd number of syndrome vertices.
+// The connected parts of the whole board, and the vertex of number 10: the smallest of all parts that hold an odd number of syndrome vertices
+// and no open vertex.
 use board::outcome::FoundVertex;
 use model::ends::first_end;
 use model::ends::second_end;
@@ -13,12 +14,12 @@ ghost use lib.ListN.{length};
 ghost use Rattle.union_find.specs.Trees.{Rooted};
 ghost use Rattle.model.specs.Board.{EndsWithin, unmarked};
 ghost use Rattle.model.specs.Decoding.{smallestOdd};
-ghost use Rattle.model.specs.Lent.{before};
+ghost use Rattle.model.specs.Lent.{before, after};
 ghost use Rattle.model.specs.Refusals.{edgesOf};
 ghost use Rattle.model.specs.Sums.{firstUpTo, ones};
 ghost use Rattle.board.specs.Checks.{vertexFound};
 ghost use Rattle.parts.specs.Connection.{Connects};
-ghost use Rattle.parts.specs.RootParities.{Parities, Marked, marked};
+ghost use Rattle.parts.specs.RootParities.{Parities, Marked, Cleared, marked};
 ghost use Rattle.parts.specs.Searchable.{Searchable};
 
 // The parts of the whole board as trees, by the parent of each vertex: every vertex alone, then the ends of every edge joined.
@@ -61,6 +62,22 @@ fn parities(parent: &[u16; VERTICES], syndrome: &[u8]) -> [u8; VERTICES]
     odd
 }
 
+// A part with an open vertex is never odd: the entry of its root becomes 0.
+fn clear_open(parent: &[u16; VERTICES], opened: &[u8], odd: &mut [u8; VERTICES])
+    requires { ⌜ Marked (length (now opened)) (now parent) (now odd) ⌝ }
+    ensures { λ _. ⌜ Cleared (length (before opened)) (before parent) (before opened) (before odd) (after odd) ⌝ }
+{
+    let mut v = 0;
+    while v < opened.len() {
+        if opened[v] == 1 {
+            let number = v as u16;
+            let root = root_of(parent, Vertex(number));
+            odd[root.0 as usize] = 0;
+        }
+        v += 1;
+    }
+}
+
 // The smallest vertex whose root has a 1. Roots are in no order, so the vertices are gone through and not the roots.
 fn first_marked(vertices: usize, parent: &[u16; VERTICES], odd: &[u8; VERTICES]) -> FoundVertex
     requires { ⌜ Marked vertices (now parent) (now odd) ⌝ }
@@ -80,12 +97,13 @@ fn first_marked(vertices: usize, parent: &[u16; VERTICES], odd: &[u8; VERTICES])
 }
 
 // The smallest vertex of all odd parts of the whole board.
-pub fn first_odd(vertices: usize, ends: &[u16], syndrome: &[u8]) -> FoundVertex
-    requires { ⌜ Searchable vertices (now ends) (now syndrome) ⌝ }
+pub fn first_odd(vertices: usize, ends: &[u16], opened: &[u8], syndrome: &[u8]) -> FoundVertex
+    requires { ⌜ Searchable vertices (now ends) (now opened) (now syndrome) ⌝ }
     ensures { λ r.
-        ⌜ vertexFound r ≡ smallestOdd (unmarked vertices (edgesOf (before ends)) (before ends)) (ones (before syndrome)) ⌝ }
+        ⌜ vertexFound r ≡ smallestOdd (unmarked vertices (edgesOf (before ends)) (before ends) (before opened)) (ones (before syndrome)) ⌝ }
 {
     let parent = connect(vertices, ends);
-    let odd = parities(&parent, syndrome);
+    let mut odd = parities(&parent, syndrome);
+    clear_open(&parent, opened, &mut odd);
     first_marked(vertices, &parent, &odd)
 }

@@ -14,13 +14,13 @@ use lib.Seq.{getD-set-same, getD-set-other}
 use lib.Dec.{eqb, ltb}
 use Rattle.model.specs.Sums.{Set, _⊕_, bit, oddUpTo, countUpTo}
 use Rattle.model.specs.Board.{Board, Inside, edges, firstEnd, secondEnd}
-use Rattle.model.specs.Syndrome.{meets, syndrome, HasSyndrome}
+use Rattle.model.specs.Syndrome.{meets, oddEnd, HasOddEnds}
 use Rattle.model.specs.Winding.{together}
 use Rattle.model.specs.Components.{label, labelsUpTo}
 use Rattle.model.specs.Forest.{forest}
 use Rattle.model.proofs.Xor.{xor-false, xor-and, equal-xor, not-true-false, xor-twice}
 use Rattle.model.proofs.SumLaws.{odd-cong, odd-xor, odd-and, odd-none}
-use Rattle.theory.proofs.Syndromes.{syndrome-cong, syndrome-together, syndrome-edge, ends-parity, cut}
+use Rattle.theory.proofs.Syndromes.{odd-end-cong, odd-end-together, odd-end-edge, ends-parity, cut}
 use Rattle.theory.proofs.Components.{edge-label}
 use Rattle.theory.proofs.Forests.{Within, forest-inside, forest-parted}
 use Rattle.union_find.specs.Trees.{at, under}
@@ -45,26 +45,26 @@ lower-next k D e =
 
 -- the parity, over the vertices of A, of what the edges of D below k are still to flip
 pub leftIn : Board → Set → Set → ℕ → Bool
-leftIn B D A k = oddUpTo (B .vertices) (λ u. syndrome B (lower k D) u && A u)
+leftIn B D A k = oddUpTo (B .vertices) (λ u. oddEnd B (lower k D) u && A u)
 
 module _ (B : Board) (r : Inside B) (D : Set) where
   -- edge k flips its ends
-  syndrome-next : (k : ℕ) → k < edges B → (u : ℕ) → syndrome B (lower (suc k) D) u ≡ syndrome B (lower k D) u ⊕ (D k && meets B k u)
-  syndrome-next k h u =
-      syndrome-cong B (lower (suc k) D) (together (lower k D) (λ i. D k && eqb k i)) (λ e l. lower-next k D e) u
-      ∙ syndrome-together B (lower k D) (λ i. D k && eqb k i) u
-      ∙ ap (λ b. syndrome B (lower k D) u ⊕ b) (syndrome-edge B (D k) k h u)
+  ends-next : (k : ℕ) → k < edges B → (u : ℕ) → oddEnd B (lower (suc k) D) u ≡ oddEnd B (lower k D) u ⊕ (D k && meets B k u)
+  ends-next k h u =
+      odd-end-cong B (lower (suc k) D) (together (lower k D) (λ i. D k && eqb k i)) (λ e l. lower-next k D e) u
+      ∙ odd-end-together B (lower k D) (λ i. D k && eqb k i) u
+      ∙ ap (λ b. oddEnd B (lower k D) u ⊕ b) (odd-end-edge B (D k) k h u)
 
   left-next : (A : Set) (k : ℕ) → k < edges B → leftIn B D A (suc k) ≡ leftIn B D A k ⊕ (D k && (A (firstEnd B k) ⊕ A (secondEnd B k)))
   unfolding leftIn
   left-next A k h =
-      odd-cong n (λ u. syndrome B (lower (suc k) D) u && A u) (λ u. (syndrome B (lower k D) u && A u) ⊕ (D k && (A u && meets B k u)))
+      odd-cong n (λ u. oddEnd B (lower (suc k) D) u && A u) (λ u. (oddEnd B (lower k D) u && A u) ⊕ (D k && (A u && meets B k u)))
       (λ u l.
-      ap (λ b. b && A u) (syndrome-next k h u)
-      ∙ xor-and (syndrome B (lower k D) u) (D k && meets B k u) (A u)
-      ∙ ap (λ b. (syndrome B (lower k D) u && A u) ⊕ b)
+      ap (λ b. b && A u) (ends-next k h u)
+      ∙ xor-and (oddEnd B (lower k D) u) (D k && meets B k u) (A u)
+      ∙ ap (λ b. (oddEnd B (lower k D) u && A u) ⊕ b)
       (and-assoc (D k) (meets B k u) (A u) ∙ ap (λ b. D k && b) (and-comm (meets B k u) (A u))))
-      ∙ odd-xor n (λ u. syndrome B (lower k D) u && A u) (λ u. D k && (A u && meets B k u))
+      ∙ odd-xor n (λ u. oddEnd B (lower k D) u && A u) (λ u. D k && (A u && meets B k u))
       ∙ ap (λ b. leftIn B D A k ⊕ b) (odd-and n (D k) (λ u. A u && meets B k u) ∙ ap (λ b. D k && b) (ends-parity B r A k h))
     where
       n : ℕ
@@ -75,8 +75,8 @@ module _ (B : Board) (r : Inside B) (D : Set) where
       → leftIn B D A k ≡ false
   unfolding leftIn
   left-closed A k same =
-      odd-cong (B .vertices) (λ u. syndrome B (lower k D) u && A u) (λ u. A u && syndrome B (lower k D) u)
-      (λ u l. and-comm (syndrome B (lower k D) u) (A u))
+      odd-cong (B .vertices) (λ u. oddEnd B (lower k D) u && A u) (λ u. A u && oddEnd B (lower k D) u)
+      (λ u l. and-comm (oddEnd B (lower k D) u) (A u))
       ∙ cut B r A (lower k D)
       ∙ odd-none (edges B) (λ e. lower k D e && (A (firstEnd B e) ⊕ A (secondEnd B e))) each
     where
@@ -130,7 +130,7 @@ pub record Peeling (B : Board) (D : Set) (p : List ℕ) (k : ℕ) (below : List 
   pub bits : (e : ℕ) → k ≤ e → e < edges B → at written e ≡ bit (D e)
   pub counted : count + countUpTo k D ≡ countUpTo (edges B) D
 
-pub peeling-start : (B : Board) (D S : Set) (p : List ℕ) (clear below : List Bool) (written : List ℕ) → HasSyndrome B D S
+pub peeling-start : (B : Board) (D S : Set) (p : List ℕ) (clear below : List Bool) (written : List ℕ) → HasOddEnds B D S
     → ((z : ℕ) → oddBelow clear z ≡ false) → AllFlipped p (B .vertices) S clear below → Peeling B D p (edges B) below written 0
 unfolding leftIn
 peeling-start B D S p clear below written has none all =
@@ -138,10 +138,10 @@ peeling-start B D S p clear below written has none all =
       parity = λ z h top.
           all .each z top
           ∙ rw (none z)
-          (odd-cong (B .vertices) (λ u. S u && under p z u) (λ u. syndrome B (lower (edges B) D) u && under p z u)
+          (odd-cong (B .vertices) (λ u. S u && under p z u) (λ u. oddEnd B (lower (edges B) D) u && under p z u)
           (λ u l.
           ap (λ b. b && under p z u)
-          (sym (has .at u l) ∙ syndrome-cong B D (lower (edges B) D) (λ e i. rw (lt-ltb e (edges B) i)) u)));
+          (sym (has .at u l) ∙ odd-end-cong B D (lower (edges B) D) (λ e i. rw (lt-ltb e (edges B) i)) u)));
       bits = λ e from h. absurd (omega arith);
       counted = omega arith;
     }

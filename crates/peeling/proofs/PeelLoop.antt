@@ -9,12 +9,12 @@ use native.Mathlib.Omega.{arith}
 use borrow.Author.Needs.{zero≤}
 use lib.ListN.{length, set, length-set, replicate, length-replicate, getD-replicate, List·getD-eq-default}
 use Rattle.model.specs.Sums.{Set, bit, ones, countUpTo}
-use Rattle.model.specs.Board.{Board, edges, unmarked}
+use Rattle.model.specs.Board.{Board, edges, plain}
 use Rattle.model.specs.Growth.{full, clusters}
-use Rattle.model.specs.Syndrome.{HasSyndrome}
+use Rattle.model.specs.Syndrome.{HasOddEnds}
 use Rattle.model.proofs.Bits.{bit-bound}
 use Rattle.model.proofs.ListLaws.{values-are}
-use Rattle.theory.proofs.Corrections.{correction-in-forest, correction-has-syndrome}
+use Rattle.theory.proofs.Corrections.{spanned-in-forest, spanned-has-ends}
 use Rattle.theory.proofs.MarksAside.{unmarked-inside}
 use Rattle.peeling.specs.TreeFlips.{oddBelow, AllFlippable, AllFlipped}
 use Rattle.peeling.specs.Links.{noVertex, Link, unlinked, linked, SpanRoom, Spans}
@@ -36,44 +36,44 @@ clear-below k z =
     ]
 
 -- the board has an edge for each byte of the support
-edge-count : (vertices : ℕ) (ends support : List ℕ) → edges (unmarked vertices (length support) ends) ≡ length support
+edge-count : (vertices : ℕ) (ends support : List ℕ) → edges (plain vertices (length support) ends) ≡ length support
 edge-count vertices ends support = length-replicate (length support) 0
 
 -- the edges from e on are cut
-pub record PeelingFrom (vertices : ℕ) (ends support syndrome p : List ℕ) (written : List ℕ) (below : List Bool) (e count : ℕ) : Type 0 where
+pub record PeelingFrom (vertices : ℕ) (ends support oddEnds p : List ℕ) (written : List ℕ) (below : List Bool) (e count : ℕ) : Type 0 where
   pub edge : e ≤ length support
   pub long : length written ≡ length support
   pub small : count + e ≤ length support
   pub flippable : AllFlippable vertices p below
-  pub state : Peeling (unmarked vertices (length support) ends) (correctionOf vertices ends support syndrome) p e below written count
+  pub state : Peeling (plain vertices (length support) ends) (correctionOf vertices ends support oddEnds) p e below written count
 
 -- What the calls before the loop ask
 
-pub span-room : {vertices : ℕ} {ends support syndrome written : List ℕ} (v k : ℕ) → vertices ≤ v → length support ≤ k
-    → Peelable vertices ends support syndrome written → SpanRoom vertices ends support (replicate v 0) (replicate k 0)
+pub span-room : {vertices : ℕ} {ends support oddEnds written : List ℕ} (v k : ℕ) → vertices ≤ v → length support ≤ k
+    → Peelable vertices ends support oddEnds written → SpanRoom vertices ends support (replicate v 0) (replicate k 0)
 span-room v k hv hk w =
     record { board = w .board; parents = rw (length-replicate {A = ℕ} v 0) hv; room = rw (length-replicate {A = ℕ} k 0) hk }
 
-module _ {vertices : ℕ} {ends support syndrome written p links : List ℕ} (w : Peelable vertices ends support syndrome written)
+module _ {vertices : ℕ} {ends support oddEnds written p links : List ℕ} (w : Peelable vertices ends support oddEnds written)
     (t : Spans vertices ends support p links) where
   fresh-flippable : (k : ℕ) → vertices ≤ k → AllFlippable vertices p (replicate k false)
   fresh-flippable k h =
       record { size = t .size; climbs = t .trees .climbs; room = rw (length-replicate {A = Bool} k false) h }
 
-  pub syndrome-flippable : (k : ℕ) → vertices ≤ k → AllFlippable (length syndrome) p (replicate k false)
-  syndrome-flippable k h = rw (w .syndrome-bytes) (fresh-flippable k h)
+  pub ends-flippable : (k : ℕ) → vertices ≤ k → AllFlippable (length oddEnds) p (replicate k false)
+  ends-flippable k h = rw (w .end-bytes) (fresh-flippable k h)
 
   -- The loop begins
 
-  has-syndrome : HasSyndrome (unmarked vertices (length support) ends) (correctionOf vertices ends support syndrome) (ones syndrome)
+  has-ends : HasOddEnds (plain vertices (length support) ends) (correctionOf vertices ends support oddEnds) (ones oddEnds)
   unfolding clusters
-  has-syndrome = correction-has-syndrome _ (unmarked-inside (w .board)) (full support) (ones syndrome) (record { even = w .even .even })
+  has-ends = spanned-has-ends _ (unmarked-inside (w .board)) (full support) (ones oddEnds) (record { even = w .even .even })
 
-  pub from-start : {below : List Bool} (k : ℕ) → vertices ≤ k → AllFlipped p (length syndrome) (ones syndrome) (replicate k false) below
-      → PeelingFrom vertices ends support syndrome p written below (length support) 0
+  pub from-start : {below : List Bool} (k : ℕ) → vertices ≤ k → AllFlipped p (length oddEnds) (ones oddEnds) (replicate k false) below
+      → PeelingFrom vertices ends support oddEnds p written below (length support) 0
   from-start {below} k h all =
-      let B = unmarked vertices (length support) ends in
-      let D = correctionOf vertices ends support syndrome in
+      let B = plain vertices (length support) ends in
+      let D = correctionOf vertices ends support oddEnds in
       record {
         edge = omega arith;
         long = w .correction-bytes;
@@ -81,15 +81,15 @@ module _ {vertices : ℕ} {ends support syndrome written p links : List ℕ} (w 
         flippable = still-flippable (fresh-flippable k h) (all .same-length);
         state =
             subst (λ e. Peeling B D p e below written 0) (edge-count vertices ends support)
-            (peeling-start B D (ones syndrome) p (replicate k false) below written has-syndrome (clear-below k)
-            (rw (w .syndrome-bytes) at all));
+            (peeling-start B D (ones oddEnds) p (replicate k false) below written has-ends (clear-below k)
+            (rw (w .end-bytes) at all));
       }
 
 -- A turn of the loop
 
-module _ {vertices : ℕ} {ends support syndrome start p links : List ℕ} (w : Peelable vertices ends support syndrome start)
+module _ {vertices : ℕ} {ends support oddEnds start p links : List ℕ} (w : Peelable vertices ends support oddEnds start)
     (t : Spans vertices ends support p links) {written : List ℕ} {below : List Bool} {e count : ℕ}
-    (s : PeelingFrom vertices ends support syndrome p written below e count) (some : 0 < e) where
+    (s : PeelingFrom vertices ends support oddEnds p written below e count) (some : 0 < e) where
   -- the edge that is looked at
   here : e - 1 < length support
   here = omega (arith, s .edge)
@@ -106,10 +106,10 @@ module _ {vertices : ℕ} {ends support syndrome start p links : List ℕ} (w : 
       }
 
   pub from-next : {c : ℕ} {below′ : List Bool} → Cuts ends p links below (e - 1) c below′
-      → PeelingFrom vertices ends support syndrome p (set written (e - 1) c) below′ (e - 1) (count + c)
+      → PeelingFrom vertices ends support oddEnds p (set written (e - 1) c) below′ (e - 1) (count + c)
   from-next {c} {below′} cuts =
-      let B = unmarked vertices (length support) ends in
-      let D = correctionOf vertices ends support syndrome in
+      let B = plain vertices (length support) ends in
+      let D = correctionOf vertices ends support oddEnds in
       let all = edge-count vertices ends support in
       record {
         edge = omega (arith, s .edge);
@@ -117,18 +117,18 @@ module _ {vertices : ℕ} {ends support syndrome start p links : List ℕ} (w : 
         small = omega (arith, s .small, cuts .answer, bit-bound (isCut links below (e - 1)));
         flippable = still-flippable (s .flippable) (cuts .same-length);
         state =
-            peeling-next B (unmarked-inside (w .board)) (full support) D (correction-in-forest B (full support) (ones syndrome))
+            peeling-next B (unmarked-inside (w .board)) (full support) D (spanned-in-forest B (full support) (ones oddEnds))
             (omega (arith, here, all)) (s .long ∙ sym all) (t .each (e - 1) here) cuts
             (subst (λ k. Peeling B D p k below written count) (omega arith) (s .state));
       }
 
 -- The loop ends
 
-pub from-done : {vertices : ℕ} {ends support syndrome p written : List ℕ} {below : List Bool} {count : ℕ}
-    → PeelingFrom vertices ends support syndrome p written below 0 count → Peels vertices ends support syndrome count written
+pub from-done : {vertices : ℕ} {ends support oddEnds p written : List ℕ} {below : List Bool} {count : ℕ}
+    → PeelingFrom vertices ends support oddEnds p written below 0 count → Peels vertices ends support oddEnds count written
 unfolding countUpTo
-from-done {vertices} {ends} {support} {syndrome} {written = written} s =
-    let D = correctionOf vertices ends support syndrome in
+from-done {vertices} {ends} {support} {oddEnds} {written = written} s =
+    let D = correctionOf vertices ends support oddEnds in
     let all = edge-count vertices ends support in
     record {
       count = omega (arith, rw all at (s .state .counted));

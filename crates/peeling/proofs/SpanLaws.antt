@@ -13,7 +13,7 @@ use lib.ListN.{length, set, length-set, replicate, length-replicate}
 use lib.Seq.{getD-set-same, getD-set-other}
 use lib.Dec.{eqb}
 use Rattle.model.specs.Sums.{Set}
-use Rattle.model.specs.Board.{Board, EndsWithin, unmarked, firstEnd, secondEnd}
+use Rattle.model.specs.Board.{Board, EndsWithin, plain, firstEnd, secondEnd}
 use Rattle.model.specs.Components.{labelsUpTo}
 use Rattle.model.specs.Growth.{full}
 use Rattle.model.specs.Forest.{forest}
@@ -109,7 +109,7 @@ stored P l k r h here before e less =
 pub record Spanning (vertices : ℕ) (ends support p size links : List ℕ) (k : ℕ) : Type 0 where
   pub trees : Trees vertices p size
   pub room : length support ≤ length links
-  pub below : SpansUpTo (unmarked vertices (length support) ends) (full support) p links k
+  pub below : SpansUpTo (plain vertices (length support) ends) (full support) p links k
 
 pub spanning-start : {vertices k : ℕ} {ends support p size links : List ℕ} → k ≡ 0 → Alone vertices p size
     → length support ≤ length links → Spanning vertices ends support p size links k
@@ -119,7 +119,7 @@ spanning-start {vertices} {ends = ends} {support} none a room =
       trees = alone-trees a;
       room = room;
       below = record {
-        mirrors = mirrors-alone (unmarked vertices (length support) ends) (full support) a;
+        mirrors = mirrors-alone (plain vertices (length support) ends) (full support) a;
         each = λ e h. absurd (not-suc-le-zero h);
       };
     })
@@ -128,7 +128,7 @@ pub spanning-next : {vertices k k′ r : ℕ} {ends support p s links p′ s′ 
     → Spanning vertices ends support p s links k → Takes ends support p s k r p′ s′ → k < length support → k′ ≡ k + 1
     → Spanning vertices ends support p′ s′ (set links k r) k′
 spanning-next {vertices} {k} {r = r} {ends} {support} {p} {links = links} board w (passed out none same-p same-s) h next =
-    let B = unmarked vertices (length support) ends in
+    let B = plain vertices (length support) ends in
     rw (next, same-p, same-s)
     (record {
       trees = w .trees;
@@ -141,7 +141,7 @@ spanning-next {vertices} {k} {r = r} {ends} {support} {p} {links = links} board 
       };
     })
 spanning-next {vertices} {k} {r = r} {ends} {support} {links = links} {p′} board w (joined is-full j i link) h next =
-    let B = unmarked vertices (length support) ends in
+    let B = plain vertices (length support) ends in
     let ha = board .first-in-range k h in
     let hb = board .second-in-range k h in
     let long = le-of-eq (sym (labels-length B (full support) k)) in

@@ -9,7 +9,7 @@ use mathlib.Core.List.{List}
 use lib.ListN.{length, getD}
 use lib.Dec.{eqb}
 use Rattle.model.specs.Sums.{Set}
-use Rattle.model.specs.Board.{Board, EndsWithin, unmarked, firstEnd, secondEnd, vertexLimit}
+use Rattle.model.specs.Board.{Board, EndsWithin, plain, firstEnd, secondEnd, vertexLimit}
 use Rattle.model.specs.Components.{label, labelsUpTo}
 use Rattle.model.specs.Growth.{full}
 use Rattle.model.specs.Forest.{forest}
@@ -63,4 +63,4 @@ pub record SpanRoom (vertices : ℕ) (ends support parent links : List ℕ) : Ty
 pub record Spans (vertices : ℕ) (ends support parent links : List ℕ) : Type 0 where
   pub size : List ℕ
   pub trees : Trees vertices parent size
-  pub each : (e : ℕ) → e < length support → Link (unmarked vertices (length support) ends) (full support) parent e (at links e)
+  pub each : (e : ℕ) → e < length support → Link (plain vertices (length support) ends) (full support) parent e (at links e)

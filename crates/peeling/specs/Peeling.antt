@@ -1,4 +1,5 @@
--- What peeling does to an edge, and what it leaves: the correction. Internal: decoding's own contract says the same of its own result.
+-- What peeling does to an edge, and what it leaves: the subset of the forest with given odd ends. Internal: decoding's own contract says the
+-- same of its own result.
 -- Assumes nothing.
 use Prim.Native.Nat.{ℕ, _+_, _*_, _<_}
 use mathlib.Core.Path.{_≡_}
@@ -8,9 +9,9 @@ use mathlib.Core.List.{List}
 use lib.ListN.{length, getD}
 use lib.Dec.{eqb}
 use Rattle.model.specs.Sums.{Set, _⊕_, bit, ones, bytes, countUpTo}
-use Rattle.model.specs.Board.{Board, EndsWithin, unmarked}
-use Rattle.model.specs.Growth.{full, odd, clusters}
-use Rattle.model.specs.Correction.{correction}
+use Rattle.model.specs.Board.{Board, EndsWithin, plain}
+use Rattle.model.specs.Growth.{full, oddlyLit, clusters}
+use Rattle.model.specs.Correction.{spanned}
 use Rattle.union_find.specs.Trees.{at, under}
 use Rattle.peeling.specs.TreeFlips.{oddBelow, AllFlippable}
 use Rattle.peeling.specs.Links.{noVertex}
@@ -39,23 +40,23 @@ pub record Cuts (ends parent links : List ℕ) (below : List Bool) (e r : ℕ) (
   pub each : (z : ℕ) → at parent z ≢ z
       → oddBelow below′ z ≡ oddBelow below z ⊕ (isCut links below e && endsUnder ends parent e z)
 
--- no cluster of the full edges is odd
-pub record NoOddCluster (B : Board) (support syndrome : List ℕ) : Type 0 where
-  pub even : (a : ℕ) → a < B .vertices → odd B (clusters B support) (ones syndrome) a ≡ false
+-- every cluster of the full edges holds an even number of the odd ends
+pub record EvenClusters (B : Board) (support oddEnds : List ℕ) : Type 0 where
+  pub even : (a : ℕ) → a < B .vertices → oddlyLit B (clusters B support) (ones oddEnds) a ≡ false
 
--- What is lent, with a syndrome byte for each vertex and a correction byte for each edge. No cluster of the full edges is odd: otherwise
--- there is no correction.
-pub record Peelable (vertices : ℕ) (ends support syndrome correction : List ℕ) : Type 0 where
+-- What is lent, with a byte for each vertex that says whether it is an odd end, and a correction byte for each edge. Every cluster of the
+-- full edges holds an even number of odd ends: otherwise no set of edges has them.
+pub record Peelable (vertices : ℕ) (ends support oddEnds correction : List ℕ) : Type 0 where
   pub board : EndsWithin vertices (length support) ends
-  pub syndrome-bytes : length syndrome ≡ vertices
+  pub end-bytes : length oddEnds ≡ vertices
   pub correction-bytes : length correction ≡ length support
-  pub even : NoOddCluster (unmarked vertices (length support) ends) support syndrome
+  pub even : EvenClusters (plain vertices (length support) ends) support oddEnds
 
--- the correction of the full edges
+-- the subset of the forest of the full edges with these odd ends
 abbrev pub correctionOf : ℕ → List ℕ → List ℕ → List ℕ → Set
-correctionOf vertices ends support syndrome = correction (unmarked vertices (length support) ends) (full support) (ones syndrome)
+correctionOf vertices ends support oddEnds = spanned (plain vertices (length support) ends) (full support) (ones oddEnds)
 
 -- its size is returned, and it is written as bytes
-pub record Peels (vertices : ℕ) (ends support syndrome : List ℕ) (r : ℕ) (written : List ℕ) : Type 0 where
-  pub count : r ≡ countUpTo (length support) (correctionOf vertices ends support syndrome)
-  pub bytes-are : written ≡ bytes (length support) (correctionOf vertices ends support syndrome)
+pub record Peels (vertices : ℕ) (ends support oddEnds : List ℕ) (r : ℕ) (written : List ℕ) : Type 0 where
+  pub count : r ≡ countUpTo (length support) (correctionOf vertices ends support oddEnds)
+  pub bytes-are : written ≡ bytes (length support) (correctionOf vertices ends support oddEnds)

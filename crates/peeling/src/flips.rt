@@ -22,14 +22,14 @@ pub fn flip(parent: &[u16; VERTICES], odd: &mut [bool; VERTICES], v: Vertex)
     }
 }
 
-// Every syndrome vertex flips.
-pub fn flip_syndrome(syndrome: &[u8], parent: &[u16; VERTICES], odd: &mut [bool; VERTICES])
-    requires { ⌜ AllFlippable (length (now syndrome)) (now parent) (now odd) ⌝ }
+// Every odd end flips.
+pub fn flip_ends(lit: &[u8], parent: &[u16; VERTICES], odd: &mut [bool; VERTICES])
+    requires { ⌜ AllFlippable (length (now lit)) (now parent) (now odd) ⌝ }
     ensures { λ r.
-        ⌜ AllFlipped (before parent) (length (before syndrome)) (ones (before syndrome)) (before odd) (after odd) ⌝ }
+        ⌜ AllFlipped (before parent) (length (before lit)) (ones (before lit)) (before odd) (after odd) ⌝ }
 {
-    for v in 0..syndrome.len() {
-        if syndrome[v] == 1 {
+    for v in 0..lit.len() {
+        if lit[v] == 1 {
             let number = v as u16;
             flip(parent, odd, Vertex(number));
         }

@@ -1,4 +1,4 @@
-// Peeling: the spanning forest of the full edges, and its one subset that has the syndrome.
+// Peeling: the spanning forest of the full edges, and its one subset that has the lit.
 mod flips;
 mod forest;
 
@@ -37,24 +37,24 @@ fn cut(
     1
 }
 
-// The correction of the full edges for a syndrome of which every cluster holds an even number: a byte for each edge, and how many edges it
-// has. The edges of the forest are cut in falling number: what hangs at the link of an edge is then one side of it in the forest of the
+// The correction of the full edges for odd ends, those with a 1 in `lit`, of which every cluster holds an even number: a byte for each edge,
+// and how many edges it has. The edges of the forest are cut in falling number: what hangs at the link of an edge is then one side of it in the forest of the
 // edges up to it.
 pub fn peel(
     vertices: usize,
     ends: &[u16],
     support: &[u8],
-    syndrome: &[u8],
+    lit: &[u8],
     correction: &mut [u8],
 ) -> usize
-    requires { ⌜ Peelable vertices (now ends) (now support) (now syndrome) (now correction) ⌝ }
-    ensures { λ r. ⌜ Peels vertices (before ends) (before support) (before syndrome) r (after correction) ⌝ }
+    requires { ⌜ Peelable vertices (now ends) (now support) (now lit) (now correction) ⌝ }
+    ensures { λ r. ⌜ Peels vertices (before ends) (before support) (before lit) r (after correction) ⌝ }
 {
     let mut parent = [0u16; VERTICES];
     let mut links = [0u16; EDGES];
     forest::span(vertices, ends, support, &mut parent, &mut links);
     let mut odd = [false; VERTICES];
-    flips::flip_syndrome(syndrome, &parent, &mut odd);
+    flips::flip_ends(lit, &parent, &mut odd);
     let mut e = support.len();
     let mut count = 0;
     while 0 < e {

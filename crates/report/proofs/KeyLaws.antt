@@ -15,7 +15,7 @@ use Rattle.model.specs.Winding.{size}
 use Rattle.model.specs.Growth.{weighted}
 use Rattle.model.specs.Decoding.{smallestOdd, growths, corrected}
 use Rattle.model.specs.Distance.{fewest}
-use Rattle.model.specs.Refusals.{noneAt, distanceRefusal}
+use Rattle.model.specs.Refusals.{noneAt}
 use Rattle.model.specs.Outcomes.{keyOrNone, keyOr, Decodes, distanceOf, distanceAnswer}
 use Rattle.model.specs.Report.{letterG, letterC, edgeLines, distanceLine, refusalLine, keyReport, sheetReport}
 use Rattle.model.proofs.Contradiction.{zero-one}
@@ -23,8 +23,7 @@ use Rattle.model.proofs.ListLaws.{length-values, ones-bytes}
 use Rattle.theory.proofs.MarkedBytes.{members-cong}
 use Rattle.theory.proofs.AnswerBounds.{count-limit}
 use Rattle.theory.proofs.Decodings.{passed-answer, none-answer, key-answer}
-use Rattle.board.proofs.Validity.{passes-board, enough-long}
-use Rattle.board.proofs.Calls.{passes-decode}
+use Rattle.board.proofs.Calls.{passes-decode, passes-distance}
 use Rattle.text.specs.Printing.{numberBytes, listedBytes}
 use Rattle.text.proofs.PrintLaws.{listed-short}
 use Rattle.report.specs.ReportLines.{fewestIn, keyLines, Keyed, Decodable}
@@ -32,8 +31,8 @@ use Rattle.report.proofs.ReportLineLaws.{line-bytes, edges-listed, numb
 
 -- the distance of a valid board is no refusal
 no-refusal : (B : Board) (shown : List ℕ) → Valid B → length shown ≡ edges B → distanceAnswer B shown ≡ distanceOf (fewest B)
-unfolding distanceAnswer distanceRefusal
-no-refusal B shown w long = rw (passes-board B _ (record { board = w; fit = enough-long B shown w long }))
+unfolding distanceAnswer
+no-refusal B shown w long = rw (passes-distance B shown (record { board = w; shown-long = long }))
 
 pub measured : (B : Board) (shown : List ℕ) (r : Distance) → Valid B → length shown ≡ edges B → r ≡ distanceAnswer B shown
     → fewestIn r ≡ fewest B

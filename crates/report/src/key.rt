@@ -21,18 +21,23 @@ fn put_key(
     vertices: usize,
     ends: &[u16],
     marks: &[u8],
+    opened: &[u8],
     growths: usize,
     correction: &[u8],
     shown: &mut [u8],
     out: &mut [u8],
 ) -> usize
-    requires { ⌜ Keyed (boardOf vertices (now ends) (now marks)) growths (now correction) (now shown) (now out) ⌝ }
+    requires { ⌜ Keyed (boardOf vertices (now ends) (now marks) (now opened)) growths (now correction) (now shown) (now out) ⌝ }
     ensures { λ r.
-        ⌜ InFront (keyLines (boardLent vertices ends marks) growths (before correction)) (before out) r (after out) ⌝ }
+        ⌜ InFront (keyLines (boardLent vertices ends marks opened) growths (before correction)) (before out) r (after out) ⌝ }
 {
     let correction_at = put_line(out, 0, LETTER_G, growths);
     let distance_at = put_listed(out, correction_at, LETTER_C, correction);
-    put_distance(out, distance_at, distance(vertices, ends, marks, shown))
+    put_distance(
+        out,
+        distance_at,
+        distance(vertices, ends, marks, opened, shown),
+    )
 }
 
 // Puts the report of a sheet that passes decoding's tests, with the buffers that decoding fills.
@@ -40,22 +45,33 @@ fn put_decoded(
     vertices: usize,
     ends: &[u16],
     marks: &[u8],
+    opened: &[u8],
     syndrome: &[u8],
     loss: &[u8],
     support: &mut [u8],
     correction: &mut [u8],
     out: &mut [u8],
 ) -> usize
-    requires { ⌜ Decodable (sheetOf (boardOf vertices (now ends) (now marks)) (now syndrome) (now loss))
+    requires { ⌜ Decodable (sheetOf (boardOf vertices (now ends) (now marks) (now opened)) (now syndrome) (now loss))
         (now support) (now correction) (now out) ⌝ }
-    ensures { λ r. ⌜ InFront (sheetReport (sheetLent vertices ends marks syndrome loss)) (before out) r (after out) ⌝ }
+    ensures { λ r. ⌜ InFront (sheetReport (sheetLent vertices ends marks opened syndrome loss)) (before out) r (after out) ⌝ }
 {
-    match decode(vertices, ends, marks, syndrome, loss, support, correction) {
+    match decode(
+        vertices,
+        ends,
+        marks,
+        opened,
+        syndrome,
+        loss,
+        support,
+        correction,
+    ) {
         Decoded::Refused(n) => put_refusal(out, n),
         Decoded::Key { growths, edges: _ } => put_key(
             vertices,
             ends,
             marks,
+            opened,
             growths,
             correction,
             support,
@@ -69,12 +85,13 @@ pub(crate) fn put_sheet(
     vertices: usize,
     ends: &[u16],
     marks: &[u8],
+    opened: &[u8],
     syndrome: &[u8],
     loss: &[u8],
     out: &mut [u8],
 ) -> usize
-    requires { ⌜ ValidSheet (sheetOf (boardOf vertices (now ends) (now marks)) (now syndrome) (now loss)) × Room (now out) ⌝ }
-    ensures { λ r. ⌜ InFront (sheetReport (sheetLent vertices ends marks syndrome loss)) (before out) r (after out) ⌝ }
+    requires { ⌜ ValidSheet (sheetOf (boardOf vertices (now ends) (now marks) (now opened)) (now syndrome) (now loss)) × Room (now out) ⌝ }
+    ensures { λ r. ⌜ InFront (sheetReport (sheetLent vertices ends marks opened syndrome loss)) (before out) r (after out) ⌝ }
 {
     let edges = marks.len();
     let mut support = [0u8; EDGES];
@@ -83,6 +100,7 @@ pub(crate) fn put_sheet(
         vertices,
         ends,
         marks,
+        opened,
         syndrome,
         loss,
         &mut support[..edges],

@@ -21,14 +21,23 @@ pub fn report(text: &[u8], out: &mut [u8; LONGEST]) -> usize
 {
     let mut ends = [0u16; ENDS];
     let mut marks = [0u8; EDGES];
+    let mut opened = [0u8; VERTICES];
     let mut syndrome = [0u8; VERTICES];
     let mut loss = [0u8; EDGES];
-    match read(text, &mut ends, &mut marks, &mut syndrome, &mut loss) {
+    match read(
+        text,
+        &mut ends,
+        &mut marks,
+        &mut opened,
+        &mut syndrome,
+        &mut loss,
+    ) {
         Reading::Refused(n) => put_refusal(out, n),
         Reading::Counts { vertices, edges } => put_sheet(
             vertices,
             &ends[..2 * edges],
             &marks[..edges],
+            &opened[..vertices],
             &syndrome[..vertices],
             &loss[..edges],
             out,

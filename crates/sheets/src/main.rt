@@ -2,6 +2,7 @@
 mod boards;
 mod decoding;
 mod output;
+mod unopened;
 mod verdicts;
 
 fn main() {

@@ -7,18 +7,19 @@ use mathlib.Core.List.{List, [], _∷_}
 use native.Mathlib.Omega.{arith}
 use lib.ListN.{length}
 use lib.Dec.{eqb, leb}
-use Rattle.model.specs.declared.refusal.Refusal.the-variants.{VertexCount, EndCount, BufferLength, EndRange, MarkRange, SyndromeByte, LossByte, HandedByte, TorusSide, TextLength, TextBuffer}
+use Rattle.model.specs.declared.refusal.Refusal.the-variants.{VertexCount, EndCount, BufferLength, EndRange, MarkRange, SyndromeByte, LossByte, HandedByte, TorusSide, TextLength, TextBuffer, OpenByte, LitOpen, PlanarSide}
 use Rattle.model.specs.Sums.{ones}
 use Rattle.model.specs.Board.{Board, Sheet, edges, vertexLimit, edgeLimit}
 use Rattle.model.specs.Decoding.{smallestOdd}
-use Rattle.model.specs.Refusals.{Test, refusalOf, sized, edgesOf, outside, above, countRules, edgeRules, boardRules, byteRules, sheetRules, sideRule, lengthRule, handedRule, decodeRefusal, verdictRefusal, distanceRefusal, torusRefusal, oddPartTest, noneAt}
+use Rattle.model.specs.Refusals.{Test, tested, refusalOf, sized, edgesOf, outside, above, litOpen, boardSized, countRules, edgeRules, boardRules, byteRules, plainRules, openRule, openRules, sheetRules, sideRule, planarSideRule, lengthRule, handedRule, decodeRefusal, verdictRefusal, distanceRefusal, torusRefusal, planarRefusal, oddPartTest, noneAt}
 use Rattle.model.specs.Torus.{leastSide, largestSide}
+use Rattle.model.specs.Planar.{leastPlanar, largestPlanar, planarVertices, planarEdges}
 use Rattle.model.specs.Text.{textOf}
 use Rattle.model.specs.TextOutcomes.{Buffers, textLimit, textRule, readRefusal, writeRefusal}
-use Rattle.model.proofs.Places.{PlaceBelow, wider, unless-below, at-below, first-below, else-below, rules-below}
+use Rattle.model.proofs.Places.{PlaceBelow, EachBelow, wider, unless-below, at-below, first-below, else-below, rules-below}
 use Rattle.theory.proofs.SmallestOdd.{smallest-odd-exactly}
-use Rattle.board.proofs.Validity.{board-tests, counts-allow, sheet-tests, board-allows}
-use Rattle.board.proofs.Calls.{verdict-tests, sheet-allows}
+use Rattle.board.proofs.Validity.{board-tests, counts-allow, plain-tests, board-allows, sheet-tests, plain-passes, plain-allows}
+use Rattle.board.proofs.Calls.{verdict-tests, handed-allowed, distance-tests, open-allowed}
 use Rattle.text.proofs.ReadOutcome.{fit}
 use Rattle.text.proofs.WriteOutcome.{textRules, write-tests}
 
@@ -60,18 +61,32 @@ bytes-small syndrome loss h =
       (first-below (length loss) (above 1 loss) (λ e. LossByte (record { 0 = e })) (λ e l. omega arith), tt),
     )
 
+open-byte-small : (opened : List ℕ) → length opened ≤ vertexLimit → Small (tested (openRule opened))
+open-byte-small opened h = first-below (length opened) (above 1 opened) (λ v. OpenByte (record { 0 = v })) (λ v l. omega arith)
+
+open-small : (X : Sheet) → length (X .board .opened) ≤ vertexLimit → EachBelow edgeLimit (openRules X)
+open-small X h = (
+  open-byte-small (X .board .opened) h,
+  (first-below (length (X .board .opened)) (litOpen (X .board .opened) (X .syndrome)) (λ v. LitOpen (record { 0 = v })) (λ v l. omega arith), tt),
+)
+
 -- Lists that the calls share
 
 board-small : (B : Board) (others : Bool) → Small (refusalOf (boardRules B others))
 board-small B others =
-    let fits = sized (B .marks) (edgesOf (B .ends)) && others in
+    let fits = boardSized B && others in
     rw (board-tests B others)
     (else-below _ _ (counts-small (B .vertices) (B .ends) fits) (λ p. edges-small B (counts-allow B others p)))
+
+plain-small : (X : Sheet) (others : Bool) → Small (refusalOf (plainRules X others))
+plain-small X others =
+    rw (plain-tests X others)
+    (else-below _ _ (board-small _ _) (λ p. bytes-small (X .syndrome) (X .loss) (board-allows X others p)))
 
 sheet-small : (X : Sheet) (others : Bool) → Small (refusalOf (sheetRules X others))
 sheet-small X others =
     rw (sheet-tests X others)
-    (else-below _ _ (board-small _ _) (λ p. bytes-small (X .syndrome) (X .loss) (board-allows X others p)))
+    (else-below _ _ (plain-small X others) (λ p. rules-below (openRules X) (open-small X (plain-allows X others (plain-passes X others p) .0))))
 
 -- The calls
 
@@ -82,11 +97,11 @@ decode-small X support correction = sheet-small X _
 pub verdict-small : (X : Sheet) (handed : List ℕ) → Small (verdictRefusal X handed)
 verdict-small X handed =
     rw (verdict-tests X handed)
-    (else-below _ _ (sheet-small X _) (λ p.
-    let few = sheet-allows X handed p in
-    rules-below (handedRule handed ∷ []) (
+    (else-below _ _ (plain-small X _) (λ p.
+    let few = handed-allowed X handed p in
+    rules-below (handedRule handed ∷ openRules X) (
       first-below (length handed) (above 1 handed) (λ e. HandedByte (record { 0 = e })) (λ e l. omega arith),
-      tt,
+      open-small X (plain-allows X _ (plain-passes X _ p) .0),
     )))
 
 -- number 10's vertex is one of the board's
@@ -96,16 +111,26 @@ odd-small X h =
     (λ v p. omega (arith, smallest-odd-exactly (X .board) (ones (X .syndrome)) v .0 p .less))
 
 pub distance-small : (B : Board) (shown : List ℕ) → Small (distanceRefusal B shown)
-unfolding distanceRefusal
-distance-small B shown = board-small B _
+distance-small B shown =
+    rw (distance-tests B shown)
+    (else-below _ _ (board-small B _) (λ p. rules-below (openRule (B .opened) ∷ []) (open-byte-small (B .opened) (open-allowed B _ p), tt)))
 
--- the side is the only place that isn't bounded by a test
+-- a side is the only place that isn't bounded by a test
 pub torus-side : (side : ℕ) (ends marks : List ℕ) → side < 2 ^ 32 → PlaceBelow (2 ^ 56) (torusRefusal side ends marks)
 unfolding torusRefusal
 torus-side side ends marks h =
     let fits = sized ends (4 * (side * side)) && sized marks (2 * (side * side)) in
     rules-below (sideRule side ∷ lengthRule fits ∷ []) (
       unless-below (leb leastSide side && leb side largestSide) (TorusSide side) (omega arith),
+      (unless-below fits BufferLength (omega arith), tt),
+    )
+
+pub planar-side : (side : ℕ) (ends marks opened : List ℕ) → side < 2 ^ 32 → PlaceBelow (2 ^ 56) (planarRefusal side ends marks opened)
+unfolding planarRefusal
+planar-side side ends marks opened h =
+    let fits = sized ends (2 * planarEdges side) && sized marks (planarEdges side) && sized opened (planarVertices side) in
+    rules-below (planarSideRule side ∷ lengthRule fits ∷ []) (
+      unless-below (leb leastPlanar side && leb side largestPlanar) (PlanarSide side) (omega arith),
       (unless-below fits BufferLength (omega arith), tt),
     )
 

@@ -12,12 +12,12 @@ use Rattle.model.specs.declared.answers.Reading.{Reading}
 use Rattle.model.specs.declared.answers.Written.{Written}
 use Rattle.model.specs.Board.{Board, Sheet}
 use Rattle.model.specs.Outcomes.{decodeAnswer, Decodes, DecodesSoundly, verdictAnswer, Judges, JudgesSoundly}
-use Rattle.model.specs.Outcomes.{distanceAnswer, Measures, torusAnswer, Builds}
+use Rattle.model.specs.Outcomes.{distanceAnswer, Measures, torusAnswer, Builds, planarAnswer, BuildsPlanar}
 use Rattle.model.specs.RoundsOutcomes.{roundsAnswer, DecodesInRounds, RoundsSoundly}
 use Rattle.model.specs.TextOutcomes.{Buffers, counts, readOutcome, Reads, writeAnswer, Writes}
 use Rattle.model.specs.Packing.{packedDecoded, packedRounds, packedVerdict, packedDistance, packedBuilt, packedReading, packedWritten}
 use Rattle.model.specs.Packing.{unpackedDecoded, unpackedRounds, unpackedVerdict, unpackedDistance, unpackedBuilt, unpackedReading, unpackedWritten}
-use Rattle.table.proofs.Returned.{decode-returned, rounds-returned, verdict-returned, distance-returned, torus-returned, read-returned, write-returned}
+use Rattle.table.proofs.Returned.{decode-returned, rounds-returned, verdict-returned, distance-returned, torus-returned, planar-returned, read-returned, write-returned}
 
 exported : {A : Type 0} (pack : A → ℕ) (unpack : ℕ → A) (P : A → Type 0) {a b : A} {r : ℕ} → unpack (pack b) ≡ b → a ≡ b → r ≡ pack a → P a
     → (r ≡ pack b) × P (unpack r)
@@ -55,6 +55,12 @@ pub torus-exported : {side : ℕ} {ends marks : List ℕ} {a : Built} {e m : Lis
     → (r ≡ packedBuilt (torusAnswer side ends marks)) × Builds side ends marks (unpackedBuilt r) e m
 torus-exported {side} {ends} {marks} {a} {e} {m} h p w =
     exported packedBuilt unpackedBuilt (λ b. Builds side ends marks b e m) (torus-returned side ends marks h) (w .result) p w
+
+pub planar-exported : {side : ℕ} {ends marks opened : List ℕ} {a : Built} {e m o : List ℕ} {r : ℕ} → side < 2 ^ 32 → r ≡ packedBuilt a
+    → BuildsPlanar side ends marks opened a e m o
+    → (r ≡ packedBuilt (planarAnswer side ends marks opened)) × BuildsPlanar side ends marks opened (unpackedBuilt r) e m o
+planar-exported {side} {ends} {marks} {opened} {a} {e} {m} {o} h p w =
+    exported packedBuilt unpackedBuilt (λ b. BuildsPlanar side ends marks opened b e m o) (planar-returned side ends marks opened h) (w .result) p w
 
 pub read-exported : {text : List ℕ} {old : Buffers} {a : Reading} {new : Buffers} {r : ℕ} → r ≡ packedReading a → Reads text old a new
     → (r ≡ packedReading (counts (readOutcome text old))) × Reads text old (unpackedReading r) new

@@ -9,7 +9,7 @@ use borrow.Author.Tests.{leb-true}
 use lib.ListN.{length}
 use lib.Dec.{eqb, leb}
 use Rattle.model.specs.declared.refusal.Refusal.{Refusal}
-use Rattle.model.specs.declared.refusal.Refusal.the-variants.{TorusSide}
+use Rattle.model.specs.declared.refusal.Refusal.the-variants.{TorusSide, PlanarSide}
 use Rattle.model.specs.declared.answers.Decoded.the-variants as decoded
 use Rattle.model.specs.declared.answers.RoundsDecoded.the-variants as inRounds
 use Rattle.model.specs.declared.answers.Verdict.the-variants as verdict
@@ -26,8 +26,9 @@ use Rattle.model.specs.Decoding.{growths, corrected, rounds, roundCorrected}
 use Rattle.model.specs.Verdict.{differs, judgedAt, judged}
 use Rattle.model.specs.Distance.{fewest}
 use Rattle.model.specs.Torus.{leastSide, largestSide}
-use Rattle.model.specs.Refusals.{placeOf, Test, sized, sideRule, lengthRule, oddPartTest, decodeRefusal, verdictRefusal, distanceRefusal, torusRefusal}
-use Rattle.model.specs.Outcomes.{answer, keyOrNone, decodeAnswer, judgedOrNone, verdictAnswer, distanceOf, distanceAnswer, torusAnswer}
+use Rattle.model.specs.Planar.{leastPlanar, largestPlanar, planarVertices, planarEdges}
+use Rattle.model.specs.Refusals.{placeOf, Test, sized, sideRule, planarSideRule, lengthRule, oddPartTest, decodeRefusal, verdictRefusal, distanceRefusal, torusRefusal, planarRefusal}
+use Rattle.model.specs.Outcomes.{answer, keyOrNone, decodeAnswer, judgedOrNone, verdictAnswer, distanceOf, distanceAnswer, torusAnswer, planarAnswer}
 use Rattle.model.specs.RoundsOutcomes.{roundsOrNone, roundsAnswer}
 use Rattle.model.specs.Text.{Read, complete, refused, textOf, readText}
 use Rattle.model.specs.TextOutcomes.{Buffers, textLimit, readRefusal, readOutcome, counts, writeRefusal, writeAnswer}
@@ -43,7 +44,8 @@ use Rattle.board.proofs.Passing.{unless-passes}
 use Rattle.board.proofs.Calls.{decode-passes, verdict-passes, distance-passes}
 use Rattle.text.proofs.TextCalls.{read-within, write-passed}
 use Rattle.torus.proofs.Numbering.{square-limit}
-use Rattle.table.proofs.CallPlaces.{roomy, decode-small, verdict-small, odd-small, distance-small, torus-side, read-small, write-small}
+use Rattle.planar.proofs.Numbering.{vertices-limit}
+use Rattle.table.proofs.CallPlaces.{roomy, decode-small, verdict-small, odd-small, distance-small, torus-side, planar-side, read-small, write-small}
 
 -- An answer comes back where the refusals of its test and what follows where it passes do.
 back : {A : Type 0} (pack : A → ℕ) (unpack : ℕ → A) {refused : Refusal → A} {else : A} (t : Test)
@@ -158,15 +160,15 @@ distance-returned B shown =
     back packedDistance unpackedDistance (distanceRefusal B shown) distance-refusal (roomy (distance-small B shown))
     (λ p. distance-fewest B (distance-passes B shown p .board))
 
--- The torus: L² vertices. A side is lent as 32 bits.
+-- The torus: L² vertices. A side is lent as 32 bits, to both builders.
 
-torus-refusal : (n : Refusal) → placeOf n < 2 ^ 56 → unpackedBuilt (packedBuilt (built.Refused n)) ≡ built.Refused n
+built-refusal : (n : Refusal) → placeOf n < 2 ^ 56 → unpackedBuilt (packedBuilt (built.Refused n)) ≡ built.Refused n
 unfolding unpackedBuilt
-torus-refusal n h = unpacked-refusal built.Refused (λ vertices rest. built.Vertices vertices) n h
+built-refusal n h = unpacked-refusal built.Refused (λ vertices rest. built.Vertices vertices) n h
 
-torus-vertices : (n : ℕ) → n < 2 ^ 32 → unpackedBuilt (packedBuilt (built.Vertices n)) ≡ built.Vertices n
+built-vertices : (n : ℕ) → n < 2 ^ 32 → unpackedBuilt (packedBuilt (built.Vertices n)) ≡ built.Vertices n
 unfolding unpackedBuilt
-torus-vertices n h = unpacked-values built.Refused (λ vertices rest. built.Vertices vertices) n 0 h (omega arith)
+built-vertices n h = unpacked-values built.Refused (λ vertices rest. built.Vertices vertices) n 0 h (omega arith)
 
 -- the side passes its test
 torus-passes : (side : ℕ) (ends marks : List ℕ) → torusRefusal side ends marks ≡ none → side ≤ largestSide
@@ -180,10 +182,27 @@ pub torus-returned : (side : ℕ) (ends marks : List ℕ) → side < 2 ^ 32
     → unpackedBuilt (packedBuilt (torusAnswer side ends marks)) ≡ torusAnswer side ends marks
 unfolding torusAnswer
 torus-returned side ends marks h =
-    back packedBuilt unpackedBuilt (torusRefusal side ends marks) torus-refusal (torus-side side ends marks h)
+    back packedBuilt unpackedBuilt (torusRefusal side ends marks) built-refusal (torus-side side ends marks h)
     (λ p.
     let few = torus-passes side ends marks p in
-    torus-vertices (side * side) (omega (arith, square-limit side few)))
+    built-vertices (side * side) (omega (arith, square-limit side few)))
+
+-- The planar board: L(L + 1) vertices
+
+planar-passes : (side : ℕ) (ends marks opened : List ℕ) → planarRefusal side ends marks opened ≡ none → side ≤ largestPlanar
+unfolding planarRefusal
+planar-passes side ends marks opened p =
+    let fits = sized ends (2 * planarEdges side) && sized marks (planarEdges side) && sized opened (planarVertices side) in
+    let e = each-passes (planarSideRule side ∷ lengthRule fits ∷ []) p in
+    let in-range = unless-passes (leb leastPlanar side && leb side largestPlanar) (PlanarSide side) (e .0) in
+    leb-true side largestPlanar (and-right (leb leastPlanar side) (leb side largestPlanar) in-range)
+
+pub planar-returned : (side : ℕ) (ends marks opened : List ℕ) → side < 2 ^ 32
+    → unpackedBuilt (packedBuilt (planarAnswer side ends marks opened)) ≡ planarAnswer side ends marks opened
+unfolding planarAnswer
+planar-returned side ends marks opened h =
+    back packedBuilt unpackedBuilt (planarRefusal side ends marks opened) built-refusal (planar-side side ends marks opened h)
+    (λ p. built-vertices (planarVertices side) (omega (arith, vertices-limit side (planar-passes side ends marks opened p))))
 
 -- Reading: both counts
 

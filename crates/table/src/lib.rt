@@ -15,7 +15,7 @@ use model::answers::Written;
 ghost use mathlib.Core.Path.{_≡_};
 ghost use Rattle.model.specs.Lent.{before, after, boardLent, sheetLent};
 ghost use Rattle.model.specs.Outcomes.{decodeAnswer, Decodes, DecodesSoundly, verdictAnswer, Judges, JudgesSoundly};
-ghost use Rattle.model.specs.Outcomes.{distanceAnswer, Measures, torusAnswer, Builds};
+ghost use Rattle.model.specs.Outcomes.{distanceAnswer, Measures, torusAnswer, Builds, planarAnswer, BuildsPlanar};
 ghost use Rattle.model.specs.RoundsOutcomes.{roundsAnswer, DecodesInRounds, RoundsSoundly};
 ghost use Rattle.model.specs.TextOutcomes.{buffersOf, counts, readOutcome, Reads, writeAnswer, Writes};
 ghost use Rattle.model.specs.Packing.{packedDecoded, packedRounds, packedVerdict, packedDistance, packedBuilt, packedReading, packedWritten};
@@ -27,6 +27,7 @@ pub extern "C" fn surface_decode(
     vertices: usize,
     ends: &[u16],
     marks: &[u8],
+    opened: &[u8],
     syndrome: &[u8],
     loss: &[u8],
     support: &mut [u8],
@@ -34,15 +35,24 @@ pub extern "C" fn surface_decode(
 ) -> u64
     ensures number { λ r.
         ⌜ r ≡ packedDecoded
-        (decodeAnswer (sheetLent vertices ends marks syndrome loss) (before support) (before correction)) ⌝ }
+        (decodeAnswer (sheetLent vertices ends marks opened syndrome loss) (before support) (before correction)) ⌝ }
     ensures outcome { λ r.
-        ⌜ Decodes (sheetLent vertices ends marks syndrome loss) (before support) (before correction)
+        ⌜ Decodes (sheetLent vertices ends marks opened syndrome loss) (before support) (before correction)
         (unpackedDecoded r) (after support) (after correction) ⌝ }
     ensures sound { λ r.
-        ⌜ DecodesSoundly (sheetLent vertices ends marks syndrome loss) (before support) (before correction)
+        ⌜ DecodesSoundly (sheetLent vertices ends marks opened syndrome loss) (before support) (before correction)
         (unpackedDecoded r) (after correction) ⌝ }
 {
-    match decoder::decode(vertices, ends, marks, syndrome, loss, support, correction) {
+    match decoder::decode(
+        vertices,
+        ends,
+        marks,
+        opened,
+        syndrome,
+        loss,
+        support,
+        correction,
+    ) {
         Decoded::Key { growths, edges } => pack(growths, edges),
         Decoded::Refused(n) => pack_refusal(n),
     }
@@ -54,6 +64,7 @@ pub extern "C" fn surface_decode_rounds(
     vertices: usize,
     ends: &[u16],
     marks: &[u8],
+    opened: &[u8],
     syndrome: &[u8],
     loss: &[u8],
     support: &mut [u8],
@@ -61,15 +72,24 @@ pub extern "C" fn surface_decode_rounds(
 ) -> u64
     ensures number { λ r.
         ⌜ r ≡ packedRounds
-        (roundsAnswer (sheetLent vertices ends marks syndrome loss) (before support) (before correction)) ⌝ }
+        (roundsAnswer (sheetLent vertices ends marks opened syndrome loss) (before support) (before correction)) ⌝ }
     ensures outcome { λ r.
-        ⌜ DecodesInRounds (sheetLent vertices ends marks syndrome loss) (before support) (before correction)
+        ⌜ DecodesInRounds (sheetLent vertices ends marks opened syndrome loss) (before support) (before correction)
         (unpackedRounds r) (after support) (after correction) ⌝ }
     ensures sound { λ r.
-        ⌜ RoundsSoundly (sheetLent vertices ends marks syndrome loss) (before support) (before correction)
+        ⌜ RoundsSoundly (sheetLent vertices ends marks opened syndrome loss) (before support) (before correction)
         (unpackedRounds r) (after support) (after correction) ⌝ }
 {
-    match decoder::decode_rounds(vertices, ends, marks, syndrome, loss, support, correction) {
+    match decoder::decode_rounds(
+        vertices,
+        ends,
+        marks,
+        opened,
+        syndrome,
+        loss,
+        support,
+        correction,
+    ) {
         RoundsDecoded::RoundsKey { rounds, edges } => pack(rounds, edges),
         RoundsDecoded::Refused(n) => pack_refusal(n),
     }
@@ -81,18 +101,19 @@ pub extern "C" fn surface_verdict(
     vertices: usize,
     ends: &[u16],
     marks: &[u8],
+    opened: &[u8],
     syndrome: &[u8],
     loss: &[u8],
     handed: &[u8],
 ) -> u64
     ensures number { λ r.
-        ⌜ r ≡ packedVerdict (verdictAnswer (sheetLent vertices ends marks syndrome loss) (before handed)) ⌝ }
+        ⌜ r ≡ packedVerdict (verdictAnswer (sheetLent vertices ends marks opened syndrome loss) (before handed)) ⌝ }
     ensures outcome { λ r.
-        ⌜ Judges (sheetLent vertices ends marks syndrome loss) (before handed) (unpackedVerdict r) ⌝ }
+        ⌜ Judges (sheetLent vertices ends marks opened syndrome loss) (before handed) (unpackedVerdict r) ⌝ }
     ensures sound { λ r.
-        ⌜ JudgesSoundly (sheetLent vertices ends marks syndrome loss) (before handed) (unpackedVerdict r) ⌝ }
+        ⌜ JudgesSoundly (sheetLent vertices ends marks opened syndrome loss) (before handed) (unpackedVerdict r) ⌝ }
 {
-    match verdict::verdict(vertices, ends, marks, syndrome, loss, handed) {
+    match verdict::verdict(vertices, ends, marks, opened, syndrome, loss, handed) {
         Verdict::Off(v) => pack(1, v.0 as usize),
         Verdict::Same => pack(2, 0),
         Verdict::Wound(x) => pack(3, x as usize),
@@ -106,13 +127,14 @@ pub extern "C" fn surface_distance(
     vertices: usize,
     ends: &[u16],
     marks: &[u8],
+    opened: &[u8],
     shown: &mut [u8],
 ) -> u64
-    ensures number { λ r. ⌜ r ≡ packedDistance (distanceAnswer (boardLent vertices ends marks) (before shown)) ⌝ }
+    ensures number { λ r. ⌜ r ≡ packedDistance (distanceAnswer (boardLent vertices ends marks opened) (before shown)) ⌝ }
     ensures outcome { λ r.
-        ⌜ Measures (boardLent vertices ends marks) (before shown) (unpackedDistance r) (after shown) ⌝ }
+        ⌜ Measures (boardLent vertices ends marks opened) (before shown) (unpackedDistance r) (after shown) ⌝ }
 {
-    match distance::distance(vertices, ends, marks, shown) {
+    match distance::distance(vertices, ends, marks, opened, shown) {
         Distance::Fewest(d) => pack(d, 1),
         Distance::Nothing => pack(0, 0),
         Distance::Refused(n) => pack_refusal(n),
@@ -131,23 +153,43 @@ pub extern "C" fn surface_torus(side: u32, ends: &mut [u16], marks: &mut [u8]) -
     }
 }
 
+// The planar board of a side, with its ends, marks and open bytes filled: the vertex count.
+#[no_mangle]
+pub extern "C" fn surface_planar(
+    side: u32,
+    ends: &mut [u16],
+    marks: &mut [u8],
+    opened: &mut [u8],
+) -> u64
+    ensures number { λ r. ⌜ r ≡ packedBuilt (planarAnswer side (before ends) (before marks) (before opened)) ⌝ }
+    ensures outcome { λ r.
+        ⌜ BuildsPlanar side (before ends) (before marks) (before opened)
+        (unpackedBuilt r) (after ends) (after marks) (after opened) ⌝ }
+{
+    match planar::planar(side as usize, ends, marks, opened) {
+        Built::Vertices(n) => pack(n, 0),
+        Built::Refused(n) => pack_refusal(n),
+    }
+}
+
 // The sheet that a text holds, with the entries of its counts filled: vertices and edges.
 #[no_mangle]
 pub extern "C" fn surface_read(
     text: &[u8],
     ends: &mut [u16],
     marks: &mut [u8],
+    opened: &mut [u8],
     syndrome: &mut [u8],
     loss: &mut [u8],
 ) -> u64
     ensures number { λ r.
         ⌜ r ≡ packedReading
-        (counts (readOutcome (before text) (buffersOf (before ends) (before marks) (before syndrome) (before loss)))) ⌝ }
+        (counts (readOutcome (before text) (buffersOf (before ends) (before marks) (before opened) (before syndrome) (before loss)))) ⌝ }
     ensures outcome { λ r.
-        ⌜ Reads (before text) (buffersOf (before ends) (before marks) (before syndrome) (before loss))
-        (unpackedReading r) (buffersOf (after ends) (after marks) (after syndrome) (after loss)) ⌝ }
+        ⌜ Reads (before text) (buffersOf (before ends) (before marks) (before opened) (before syndrome) (before loss))
+        (unpackedReading r) (buffersOf (after ends) (after marks) (after opened) (after syndrome) (after loss)) ⌝ }
 {
-    match text::reading::read(text, ends, marks, syndrome, loss) {
+    match text::reading::read(text, ends, marks, opened, syndrome, loss) {
         Reading::Counts { vertices, edges } => pack(vertices, edges),
         Reading::Refused(n) => pack_refusal(n),
     }
@@ -159,16 +201,17 @@ pub extern "C" fn surface_write(
     vertices: usize,
     ends: &[u16],
     marks: &[u8],
+    opened: &[u8],
     syndrome: &[u8],
     loss: &[u8],
     text: &mut [u8],
 ) -> u64
     ensures number { λ r.
-        ⌜ r ≡ packedWritten (writeAnswer (sheetLent vertices ends marks syndrome loss) (before text)) ⌝ }
+        ⌜ r ≡ packedWritten (writeAnswer (sheetLent vertices ends marks opened syndrome loss) (before text)) ⌝ }
     ensures outcome { λ r.
-        ⌜ Writes (sheetLent vertices ends marks syndrome loss) (before text) (unpackedWritten r) (after text) ⌝ }
+        ⌜ Writes (sheetLent vertices ends marks opened syndrome loss) (before text) (unpackedWritten r) (after text) ⌝ }
 {
-    match text::writing::write(vertices, ends, marks, syndrome, loss, text) {
+    match text::writing::write(vertices, ends, marks, opened, syndrome, loss, text) {
         Written::Bytes(n) => pack(n, 0),
         Written::Refused(n) => pack_refusal(n),
     }

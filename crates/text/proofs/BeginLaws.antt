@@ -8,7 +8,7 @@ use borrow.Author.Tests.{le-leb, lt-leb}
 use lib.Dec.{leb}
 use Rattle.model.specs.Board.{vertexLimit}
 use Rattle.model.specs.Text as text
-use Rattle.model.specs.Text.{V-line, E-line, S-line, X-line, firstLine}
+use Rattle.model.specs.Text.{V-line, E-line, O-line, S-line, X-line, firstLine}
 use Rattle.model.proofs.Contradiction.{zero-one}
 use Rattle.text.specs.declared.line.Line.{Line}
 use Rattle.text.specs.declared.stage.Stage.the-variants as stage
@@ -18,6 +18,7 @@ use Rattle.text.specs.Stages.{verticesOf, withVertices, begunWith}
 by-count : (l : text.Line) → firstLine l ≡ cond (leb 1 (verticesOf l) && leb (verticesOf l) vertexLimit) (some (verticesOf l)) none
 by-count (V-line n) = refl
 by-count (E-line a b m) = refl
+by-count (O-line v) = refl
 by-count (S-line v) = refl
 by-count (X-line e) = refl
 

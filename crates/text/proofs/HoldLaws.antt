@@ -10,12 +10,13 @@ use lib.ListN.{length, getD, take, set, replicate, length-append, length-set, le
 use lib.Seq.{ext-getD, getD-take, length-take-le, take-suc-set, take-set-lt}
 use lib.Dec.{leb, ltb}
 use Rattle.model.proofs.Xor.{and-left, and-right}
+use Rattle.model.proofs.ListLaws.{zero-everywhere}
 use Rattle.model.specs.Board.{Sheet, edges, vertexLimit, edgeLimit}
-use Rattle.model.specs.Text.{Line, V-line, E-line, S-line, X-line, edgeMayFollow, syndromeMayFollow, lossMayFollow, begun}
+use Rattle.model.specs.Text.{Line, V-line, E-line, O-line, S-line, X-line, edgeMayFollow, openMayFollow, syndromeMayFollow, lossMayFollow, begun}
 use Rattle.model.specs.TextOutcomes.{Buffers, buffersOf}
-use Rattle.text.specs.Order.{edgeFits, mayStand}
-use Rattle.text.specs.Scratch.{Sized, Storable, stored, edgesWith, Holds}
-use Rattle.text.proofs.ReadLaws.{withLine}
+use Rattle.text.specs.Order.{edgeFits, litFits, mayStand}
+use Rattle.text.specs.Scratch.{Sized, Clear, Storable, stored, edgesWith, Holds}
+use Rattle.text.proofs.ReadLaws.{withLine, mayStandOn, lit-inside}
 
 -- zeros in front of zeros
 take-zeros : (n : ℕ) (l : List ℕ) → n ≤ length l → ((i : ℕ) → getD l i 0 ≡ 0) → take n l ≡ replicate n 0
@@ -24,31 +25,36 @@ take-zeros n l h zeros =
     ext-getD 0 (take n l) (replicate n 0) (long ∙ sym (length-replicate n 0))
     (λ i lt. getD-take n l i 0 (omega arith) ∙ zeros i ∙ sym (getD-replicate n i 0 0 (omega arith)))
 
-pub holds-begun : (n : ℕ) (b : Buffers) → Sized b → ((v : ℕ) → getD (b .syndrome) v 0 ≡ 0) → n ≤ vertexLimit → Holds (begun n) b
-holds-begun n b sized zeros h =
+pub holds-begun : (n : ℕ) (b : Buffers) → Sized b → Clear b → n ≤ vertexLimit → Holds (begun n) b
+holds-begun n b sized clear h =
     record {
       sized = sized;
       vertex-limit = h;
       edge-limit = omega arith;
       ends-held = refl;
       marks-held = refl;
-      syndrome-held = take-zeros n (b .syndrome) (omega (arith, sized .syndrome-long)) zeros;
+      open-held = take-zeros n (b .opened) (omega (arith, sized .open-long)) (clear .shut);
+      syndrome-held = take-zeros n (b .syndrome) (omega (arith, sized .syndrome-long)) (clear .unlit);
       loss-held = refl;
     }
 
 -- what may stand fits the arrays
-pub storable : (n m : ℕ) (last l : Line) → n ≤ vertexLimit → m ≤ edgeLimit → mayStand n m last l ≡ true → Storable m l
-storable n m last (V-line k) hn hm p = absurd (false≢true p)
-storable n m last (E-line a b k) hn hm p =
+pub storable : (n m : ℕ) (opened : List ℕ) (last l : Line) → n ≤ vertexLimit → m ≤ edgeLimit → mayStand n m opened last l ≡ true
+    → Storable m l
+storable n m opened last (V-line k) hn hm p = absurd (false≢true p)
+storable n m opened last (E-line a b k) hn hm p =
     let fits = and-right (edgeMayFollow last) (edgeFits n m a b k) p in
     let ends = and-left (ltb m edgeLimit && ltb a n && ltb b n) (leb k 3) fits in (
       ltb-true m edgeLimit (and-left (ltb m edgeLimit) (ltb a n) (and-left (ltb m edgeLimit && ltb a n) (ltb b n) ends)),
       leb-true k 3 (and-right (ltb m edgeLimit && ltb a n && ltb b n) (leb k 3) fits),
     )
-storable n m last (S-line v) hn hm p =
-    let lv = ltb-true v n (and-right (syndromeMayFollow last v) (ltb v n) p) in
+storable n m opened last (O-line v) hn hm p =
+    let lv = ltb-true v n (and-right (openMayFollow last v) (ltb v n) p) in
     omega arith
-storable n m last (X-line e) hn hm p =
+storable n m opened last (S-line v) hn hm p =
+    let lv = lit-inside n opened v (and-right (syndromeMayFollow last v) (litFits n opened v) p) in
+    omega arith
+storable n m opened last (X-line e) hn hm p =
     let le = ltb-true e m (and-right (lossMayFollow last e) (ltb e m) p) in
     omega arith
 
@@ -56,6 +62,7 @@ pub edges-with : (X : Sheet) (l : Line) → edges (withLine X l .board) ≡ edge
 unfolding withLine
 edges-with X (V-line n) = refl
 edges-with X (E-line a b m) = length-append (X .board .marks) (m ∷ [])
+edges-with X (O-line v) = refl
 edges-with X (S-line v) = refl
 edges-with X (X-line e) = refl
 
@@ -63,6 +70,7 @@ pub vertices-with : (X : Sheet) (l : Line) → withLine X l .board .vertices ≡
 unfolding withLine
 vertices-with X (V-line n) = refl
 vertices-with X (E-line a b m) = refl
+vertices-with X (O-line v) = refl
 vertices-with X (S-line v) = refl
 vertices-with X (X-line e) = refl
 
@@ -78,20 +86,20 @@ two-more l i a b h =
     ∙ append-assoc (take i l) (a ∷ []) (b ∷ [])
 
 module _ (X : Sheet) (b : Buffers) (w : Holds X b) (last : Line) where
-  pub holds-line : (l : Line) → mayStand (X .board .vertices) (edges (X .board)) last l ≡ true
-      → Holds (withLine X l) (stored (edges (X .board)) l b)
+  pub holds-line : (l : Line) → mayStandOn X last l ≡ true → Holds (withLine X l) (stored (edges (X .board)) l b)
   unfolding withLine
   holds-line (V-line n) p = absurd (false≢true p)
   holds-line (E-line u v k) p =
       let m = edges (X .board) in
       let z = w .sized in
-      let fits = storable (X .board .vertices) m last (E-line u v k) (w .vertex-limit) (w .edge-limit) p in
+      let fits = storable (X .board .vertices) m (X .board .opened) last (E-line u v k) (w .vertex-limit) (w .edge-limit) p in
       let more : length (X .board .marks ++ (k ∷ [])) ≡ m + 1 = length-append (X .board .marks) (k ∷ []) in
       record {
         sized =
             record {
               ends-long = length-set (set (b .ends) (2 * m) u) (2 * m + 1) v ∙ length-set (b .ends) (2 * m) u ∙ z .ends-long;
               marks-long = length-set (b .marks) m k ∙ z .marks-long;
+              open-long = z .open-long;
               syndrome-long = z .syndrome-long;
               loss-long = length-set (b .loss) m 0 ∙ z .loss-long;
             };
@@ -104,19 +112,42 @@ module _ (X : Sheet) (b : Buffers) (w : Holds X b) (last : Line) where
             ∙ ap (λ l. l ++ (u ∷ v ∷ [])) (w .ends-held);
         marks-held =
             ap (λ n. take n (set (b .marks) m k)) more ∙ one-more (b .marks) m k (omega arith) ∙ ap (λ l. l ++ (k ∷ [])) (w .marks-held);
+        open-held = w .open-held;
         syndrome-held = w .syndrome-held;
         loss-held =
             ap (λ n. take n (set (b .loss) m 0)) more ∙ one-more (b .loss) m 0 (omega arith) ∙ ap (λ l. l ++ (0 ∷ [])) (w .loss-held);
       }
-  holds-line (S-line v) p =
+  holds-line (O-line v) p =
       let n = X .board .vertices in
       let z = w .sized in
-      let lv = ltb-true v n (and-right (syndromeMayFollow last v) (ltb v n) p) in
+      let lv = ltb-true v n (and-right (openMayFollow last v) (ltb v n) p) in
       record {
         sized =
             record {
               ends-long = z .ends-long;
               marks-long = z .marks-long;
+              open-long = length-set (b .opened) v 1 ∙ z .open-long;
+              syndrome-long = z .syndrome-long;
+              loss-long = z .loss-long;
+            };
+        vertex-limit = w .vertex-limit;
+        edge-limit = w .edge-limit;
+        ends-held = w .ends-held;
+        marks-held = w .marks-held;
+        open-held = take-set-lt n (b .opened) v 1 lv ∙ ap (λ s. set s v 1) (w .open-held);
+        syndrome-held = w .syndrome-held;
+        loss-held = w .loss-held;
+      }
+  holds-line (S-line v) p =
+      let n = X .board .vertices in
+      let z = w .sized in
+      let lv = lit-inside n (X .board .opened) v (and-right (syndromeMayFollow last v) (litFits n (X .board .opened) v) p) in
+      record {
+        sized =
+            record {
+              ends-long = z .ends-long;
+              marks-long = z .marks-long;
+              open-long = z .open-long;
               syndrome-long = length-set (b .syndrome) v 1 ∙ z .syndrome-long;
               loss-long = z .loss-long;
             };
@@ -124,6 +155,7 @@ module _ (X : Sheet) (b : Buffers) (w : Holds X b) (last : Line) where
         edge-limit = w .edge-limit;
         ends-held = w .ends-held;
         marks-held = w .marks-held;
+        open-held = w .open-held;
         syndrome-held = take-set-lt n (b .syndrome) v 1 lv ∙ ap (λ s. set s v 1) (w .syndrome-held);
         loss-held = w .loss-held;
       }
@@ -136,6 +168,7 @@ module _ (X : Sheet) (b : Buffers) (w : Holds X b) (last : Line) where
             record {
               ends-long = z .ends-long;
               marks-long = z .marks-long;
+              open-long = z .open-long;
               syndrome-long = z .syndrome-long;
               loss-long = length-set (b .loss) e 1 ∙ z .loss-long;
             };
@@ -143,16 +176,26 @@ module _ (X : Sheet) (b : Buffers) (w : Holds X b) (last : Line) where
         edge-limit = w .edge-limit;
         ends-held = w .ends-held;
         marks-held = w .marks-held;
+        open-held = w .open-held;
         syndrome-held = w .syndrome-held;
         loss-held = take-set-lt m (b .loss) e 1 le ∙ ap (λ s. set s e 1) (w .loss-held);
       }
 
--- arrays of zeros have room for every sheet
-pub zeros-sized : Sized (buffersOf (replicate (2 * edgeLimit) 0) (replicate edgeLimit 0) (replicate vertexLimit 0) (replicate edgeLimit 0))
+-- arrays of zeros have room for every sheet, and are clear
+abbrev pub zeros : Buffers
+zeros =
+    buffersOf (replicate (2 * edgeLimit) 0) (replicate edgeLimit 0)
+    (replicate vertexLimit 0) (replicate vertexLimit 0) (replicate edgeLimit 0)
+
+pub zeros-sized : Sized zeros
 zeros-sized =
     record {
       ends-long = length-replicate {A = ℕ} (2 * edgeLimit) 0;
       marks-long = length-replicate {A = ℕ} edgeLimit 0;
+      open-long = length-replicate {A = ℕ} vertexLimit 0;
       syndrome-long = length-replicate {A = ℕ} vertexLimit 0;
       loss-long = length-replicate {A = ℕ} edgeLimit 0;
     }
+
+pub zeros-clear : Clear zeros
+zeros-clear = record { shut = zero-everywhere vertexLimit; unlit = zero-everywhere vertexLimit }

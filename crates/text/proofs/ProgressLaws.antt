@@ -4,7 +4,7 @@ use mathlib.Core.Path.{_≡_, refl, sym, ap, ap₂, _∙_}
 use mathlib.Core.Bool.{true, false}
 use mathlib.Core.List.{List}
 use mathlib.Core.Option.{some}
-use lib.ListN.{length, getD, drop}
+use lib.ListN.{length, drop}
 use Rattle.model.specs.declared.refusal.Refusal.{Refusal}
 use Rattle.model.specs.declared.refusal.Refusal.the-variants.{MalformedLine}
 use Rattle.model.specs.declared.answers.Reading.the-variants as reading
@@ -14,8 +14,8 @@ use Rattle.model.specs.TextOutcomes.{Buffers, counts}
 use Rattle.theory.proofs.TextReading.{first-vertices}
 use Rattle.text.specs.declared.line.Line.{Line}
 use Rattle.text.specs.Order.{meant, mayStand}
-use Rattle.text.specs.Scratch.{Sized, edgesWith, Stores, Holds, ReadsInto}
-use Rattle.text.proofs.ReadLaws.{LineIs, NoLine, withLine, goes-on, out-of-place, malformed, finishes, first-is}
+use Rattle.text.specs.Scratch.{Sized, Clear, edgesWith, Stores, Holds, ReadsInto}
+use Rattle.text.proofs.ReadLaws.{LineIs, NoLine, withLine, mayStandOn, same-stand, goes-on, out-of-place, malformed, finishes, first-is}
 use Rattle.text.proofs.HoldLaws.{holds-begun, holds-line, edges-with, vertices-with}
 
 -- the sheet so far, which the arrays hold, and the line that comes next
@@ -32,21 +32,23 @@ into-refused t b r p sized = record { result = sym (ap counts p); sized = sized;
 
 -- the first line, which is taken
 pub begins : (t : List ℕ) (b : Buffers) (l : Line) (next k′ n : ℕ) → LineIs t 0 1 l next k′ → firstLine (meant l) ≡ some n → Sized b
-    → ((v : ℕ) → getD (b .syndrome) v 0 ≡ 0) → Progress t b n next k′ l 0
-begins t b l next k′ n is first sized zeros =
+    → Clear b → Progress t b n next k′ l 0
+begins t b l next k′ n is first sized clear =
     record {
       sheet = begun n;
       reading = first-is t l next k′ n is first;
       vertices-are = refl;
       edges-are = refl;
-      holds = holds-begun n b sized zeros (first-vertices (meant l) n first .vertex-limit);
+      holds = holds-begun n b sized clear (first-vertices (meant l) n first .vertex-limit);
     }
 
 module _ (t : List ℕ) (b : Buffers) (n at k : ℕ) (last : Line) (m : ℕ) (w : Progress t b n at k last m) where
-  -- the rule about the next line, over the sheet's own counts
-  over-sheet : (l : Line)
-      → mayStand (w .sheet .board .vertices) (edges (w .sheet .board)) (meant last) (meant l) ≡ mayStand n m (meant last) (meant l)
-  over-sheet l = ap₂ (λ x y. mayStand x y (meant last) (meant l)) (w .vertices-are) (w .edges-are)
+  -- the rule about the next line, over the sheet's own counts and open bytes
+  over-sheet : (l : Line) → mayStandOn (w .sheet) (meant last) (meant l) ≡ mayStand n m (b .opened) (meant last) (meant l)
+  over-sheet l =
+      ap (λ o. mayStand (w .sheet .board .vertices) (edges (w .sheet .board)) o (meant last) (meant l)) (sym (w .holds .open-held))
+      ∙ same-stand (w .sheet .board .vertices) (edges (w .sheet .board)) (b .opened) (meant last) (meant l)
+      ∙ ap₂ (λ x y. mayStand x y (b .opened) (meant last) (meant l)) (w .vertices-are) (w .edges-are)
 
   pub within : (n ≤ vertexLimit) × (m ≤ edgeLimit)
   within = (rw (w .vertices-are) at (w .holds .vertex-limit), rw (w .edges-are) at (w .holds .edge-limit))
@@ -64,10 +66,10 @@ module _ (t : List ℕ) (b : Buffers) (n at k : ℕ) (last : Line) (m : ℕ) (w 
       }
 
   module _ (l : Line) (next k′ : ℕ) (is : LineIs t at k l next k′) where
-    pub ends-out-of-place : mayStand n m (meant last) (meant l) ≡ false → readText t ≡ refused (MalformedLine k)
+    pub ends-out-of-place : mayStand n m (b .opened) (meant last) (meant l) ≡ false → readText t ≡ refused (MalformedLine k)
     ends-out-of-place p = w .reading ∙ out-of-place (w .sheet) (meant last) k t at l next k′ is (over-sheet l ∙ p)
 
-    pub goes-further : (m′ : ℕ) (b′ : Buffers) → mayStand n m (meant last) (meant l) ≡ true → Stores m (meant l) b m′ b′
+    pub goes-further : (m′ : ℕ) (b′ : Buffers) → mayStand n m (b .opened) (meant last) (meant l) ≡ true → Stores m (meant l) b m′ b′
         → Progress t b′ n next k′ l m′
     goes-further m′ b′ p s =
         let X = w .sheet in

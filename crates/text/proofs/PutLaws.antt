@@ -10,8 +10,8 @@ use lib.ListN.{length, getD, set, length-append}
 use lib.Arith.{le-zero}
 use lib.Seq.{sets, length-sets}
 use Rattle.model.specs.Sums.{Set, ones}
-use Rattle.model.specs.Board.{Sheet, edges}
-use Rattle.model.specs.Text.{letterV, letterS, letterX, decimal}
+use Rattle.model.specs.Board.{Sheet, edges, isOpen}
+use Rattle.model.specs.Text.{letterV, letterO, letterS, letterX, decimal}
 use Rattle.text.specs.Printing.{Puts, numberBytes, edgeBytes, placeBytes, edgesBytes, listedBytes, sheetBytes}
 
 -- what is put behind what was put
@@ -93,12 +93,14 @@ pub length-sheet : (X : Sheet)
     → length (sheetBytes X)
     ≡ length (numberBytes letterV (X .board .vertices))
     + length (edgesBytes (X .board .ends) (X .board .marks) (edges (X .board)))
+    + length (listedBytes letterO (isOpen (X .board)) (length (X .board .opened)))
     + length (listedBytes letterS (ones (X .syndrome)) (length (X .syndrome)))
     + length (listedBytes letterX (ones (X .loss)) (length (X .loss)))
 length-sheet X =
     let B = X .board in
     let v = numberBytes letterV (B .vertices) in
     let e = edgesBytes (B .ends) (B .marks) (edges B) in
+    let o = listedBytes letterO (isOpen B) (length (B .opened)) in
     let s = listedBytes letterS (ones (X .syndrome)) (length (X .syndrome)) in
     let l = listedBytes letterX (ones (X .loss)) (length (X .loss)) in
-    omega (arith, length-append (v ++ e ++ s) l, length-append (v ++ e) s, length-append v e)
+    omega (arith, length-append (v ++ e ++ o ++ s) l, length-append (v ++ e ++ o) s, length-append (v ++ e) o, length-append v e)

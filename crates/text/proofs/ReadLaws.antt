@@ -1,24 +1,26 @@
 -- Reading a text line by line: what the answer about the next line says of all that is left. Assumes nothing.
 use Prim.Native.Nat.{ℕ, suc, _+_, _≤_, _<_}
 use mathlib.Core.Path.{_≡_, refl, sym, ap, _∙_}
-use mathlib.Core.Bool.{Bool, true, false, cond, _&&_, false≢true, and-true, and-false}
+use mathlib.Core.Bool.{Bool, true, false, cond, not, _&&_, false≢true, and-true, and-false}
 use mathlib.Core.List.{List, [], _∷_}
 use mathlib.Core.Option.{Option, none, some}
 use native.Mathlib.Numerals.{add-one}
 use native.Mathlib.Omega.{arith}
 use borrow.Author.Tests.{ltb-true, ltb-false, leb-true, leb-false, le-leb, lt-leb}
-use lib.ListN.{length, drop, drop-of-length-le}
+use lib.ListN.{length, take, drop, drop-of-length-le}
+use lib.Seq.{getD-take}
 use lib.Dec.{leb, ltb}
 use Rattle.model.proofs.Xor.{and-left, and-right}
 use Rattle.model.specs.declared.refusal.Refusal.the-variants.{MalformedLine}
+use Rattle.model.specs.Sums.{ones}
 use Rattle.model.specs.Board.{Sheet, edges, vertexLimit, edgeLimit}
 use Rattle.model.specs.Text as text
-use Rattle.model.specs.Text.{V-line, E-line, S-line, X-line, newline, numbersOf, partedBy, lineFrom, complete, refused, orMalformed, firstLine, begun, edgeMayFollow, syndromeMayFollow, lossMayFollow, withEdge, withSyndrome, withLoss, step, readOn, readLines, readText}
+use Rattle.model.specs.Text.{V-line, E-line, O-line, S-line, X-line, newline, numbersOf, partedBy, lineFrom, complete, refused, orMalformed, firstLine, begun, edgeMayFollow, openMayFollow, syndromeMayFollow, lossMayFollow, withEdge, withOpen, withSyndrome, withLoss, step, readOn, readLines, readText}
 use Rattle.text.specs.declared.line.Line.{Line}
 use Rattle.text.specs.declared.line.LineRead.the-variants as lineread
 use Rattle.text.specs.Pieces.{upTo}
 use Rattle.text.specs.LineReadings.{asLine, asParsed, small, lineParsed, asRead, lineReadAt}
-use Rattle.text.specs.Order.{meant, edgeFits, mayStand}
+use Rattle.text.specs.Order.{meant, edgeFits, litFits, mayStand}
 use Rattle.text.proofs.PieceLaws.{parted, pieces-at, one-piece-at}
 use Rattle.theory.proofs.TextReading.{first-vertices}
 use Rattle.model.proofs.Contradiction.{zero-one}
@@ -43,6 +45,7 @@ pub data NoLine (t : List ℕ) (at : ℕ) : Type 0 where
 meant-asLine : (l : text.Line) → meant (asLine l) ≡ l
 meant-asLine (V-line n) = refl
 meant-asLine (E-line a b m) = refl
+meant-asLine (O-line v) = refl
 meant-asLine (S-line v) = refl
 meant-asLine (X-line e) = refl
 
@@ -121,22 +124,44 @@ module _ (t : List ℕ) (at k : ℕ) where
 unfoldable pub withLine : Sheet → text.Line → Sheet
 withLine X (V-line n) = X
 withLine X (E-line a b m) = withEdge X a b m
+withLine X (O-line v) = withOpen X v
 withLine X (S-line v) = withSyndrome X v
 withLine X (X-line e) = withLoss X e
 
-pub steps : (X : Sheet) (last l : text.Line)
-    → step X last l ≡ cond (mayStand (X .board .vertices) (edges (X .board)) last l) (some (withLine X l)) none
+-- where it may stand on the sheet itself
+abbrev pub mayStandOn : Sheet → text.Line → text.Line → Bool
+mayStandOn X last l = mayStand (X .board .vertices) (edges (X .board)) (X .board .opened) last l
+
+pub steps : (X : Sheet) (last l : text.Line) → step X last l ≡ cond (mayStandOn X last l) (some (withLine X l)) none
 unfolding step withLine
 steps X last (V-line n) = refl
 steps X last (E-line a b m) = refl
+steps X last (O-line v) = refl
 steps X last (S-line v) = refl
 steps X last (X-line e) = refl
 
+-- a vertex that may be lit is in range
+pub lit-inside : (n : ℕ) (opened : List ℕ) (v : ℕ) → litFits n opened v ≡ true → v < n
+lit-inside n opened v p = ltb-true v n (and-left (ltb v n) (not (ones opened v)) p)
+
+-- only the open bytes of the board's vertices matter
+pub same-stand : (n m : ℕ) (opened : List ℕ) (last l : text.Line) → mayStand n m (take n opened) last l ≡ mayStand n m opened last l
+same-stand n m opened last (V-line k) = refl
+same-stand n m opened last (E-line a b k) = refl
+same-stand n m opened last (O-line v) = refl
+same-stand n m opened last (S-line v) = go (ltb v n) refl
+  where
+    go : (t : Bool) → ltb v n ≡ t
+        → syndromeMayFollow last v && (t && not (ones (take n opened) v)) ≡ syndromeMayFollow last v && (t && not (ones opened v))
+    go true p = rw (getD-take n opened v 0 (ltb-true v n p))
+    go false p = refl
+same-stand n m opened last (X-line e) = refl
+
 -- what may stand on a board within the limits has small numbers
-pub stands-small : (n m : ℕ) (last l : text.Line) → n ≤ vertexLimit → m ≤ edgeLimit → mayStand n m last l ≡ true
-    → small (numbersOf l) ≡ true
-stands-small n m last (V-line k) hn hm p = absurd (false≢true p)
-stands-small n m last (E-line a b k) hn hm p =
+pub stands-small : (n m : ℕ) (opened : List ℕ) (last l : text.Line) → n ≤ vertexLimit → m ≤ edgeLimit
+    → mayStand n m opened last l ≡ true → small (numbersOf l) ≡ true
+stands-small n m opened last (V-line k) hn hm p = absurd (false≢true p)
+stands-small n m opened last (E-line a b k) hn hm p =
     let fits = and-right (edgeMayFollow last) (edgeFits n m a b k) p in
     let inside = ltb m edgeLimit && ltb a n && ltb b n in
     let mark = leb-true k 3 (and-right inside (leb k 3) fits) in
@@ -144,26 +169,27 @@ stands-small n m last (E-line a b k) hn hm p =
     let la = ltb-true a n (and-right (ltb m edgeLimit) (ltb a n) (and-left (ltb m edgeLimit && ltb a n) (ltb b n) ab)) in
     let lb = ltb-true b n (and-right (ltb m edgeLimit && ltb a n) (ltb b n) ab) in
     rw (le-leb a edgeLimit (omega arith), le-leb b edgeLimit (omega arith), le-leb k edgeLimit (omega arith))
-stands-small n m last (S-line v) hn hm p =
-    let lv = ltb-true v n (and-right (syndromeMayFollow last v) (ltb v n) p) in
+stands-small n m opened last (O-line v) hn hm p =
+    let lv = ltb-true v n (and-right (openMayFollow last v) (ltb v n) p) in
     rw (le-leb v edgeLimit (omega arith))
-stands-small n m last (X-line e) hn hm p =
+stands-small n m opened last (S-line v) hn hm p =
+    let lv = lit-inside n opened v (and-right (syndromeMayFollow last v) (litFits n opened v) p) in
+    rw (le-leb v edgeLimit (omega arith))
+stands-small n m opened last (X-line e) hn hm p =
     let le = ltb-true e m (and-right (lossMayFollow last e) (ltb e m) p) in
     rw (le-leb e edgeLimit (omega arith))
 
 -- What is left of the text, by the answer about the next line
 
 module _ (X : Sheet) (last : text.Line) (k : ℕ) (t : List ℕ) (at : ℕ) where
-  pub goes-on : (l : Line) (next k′ : ℕ) → LineIs t at k l next k′
-      → mayStand (X .board .vertices) (edges (X .board)) last (meant l) ≡ true
+  pub goes-on : (l : Line) (next k′ : ℕ) → LineIs t at k l next k′ → mayStandOn X last (meant l) ≡ true
       → readOn X last k (partedBy newline (drop at t)) ≡ readOn (withLine X (meant l)) (meant l) k′ (partedBy newline (drop next t))
   unfolding readOn
   goes-on l next k′ w stands =
       let v = parted newline (drop next t) in
       rw (w .follows, add-one k, w .pieces, v .are, w .reads, steps X last (meant l), stands)
 
-  pub out-of-place : (l : Line) (next k′ : ℕ) → LineIs t at k l next k′
-      → mayStand (X .board .vertices) (edges (X .board)) last (meant l) ≡ false
+  pub out-of-place : (l : Line) (next k′ : ℕ) → LineIs t at k l next k′ → mayStandOn X last (meant l) ≡ false
       → readOn X last k (partedBy newline (drop at t)) ≡ refused (MalformedLine k)
   unfolding readOn
   out-of-place l next k′ w stands =
@@ -180,11 +206,11 @@ module _ (X : Sheet) (last : text.Line) (k : ℕ) (t : List ℕ) (at : ℕ) wher
   malformed hn hm inside (unended (b ∷ bs) p h) = rw p
   malformed hn hm inside (unread bytes next rest p q) = rw (p, q)
   malformed hn hm inside (large bytes next rest l p q s) =
-      rw (p, q, steps X last l) (go (mayStand (X .board .vertices) (edges (X .board)) last l) refl)
+      rw (p, q, steps X last l) (go (mayStandOn X last l) refl)
     where
-      go : (b : Bool) → mayStand (X .board .vertices) (edges (X .board)) last l ≡ b
+      go : (b : Bool) → mayStandOn X last l ≡ b
           → orMalformed k (cond b (some (withLine X l)) none) (λ more. readOn more l (suc k) (next ∷ rest)) ≡ refused (MalformedLine k)
-      go true r = absurd (false≢true (sym s ∙ stands-small (X .board .vertices) (edges (X .board)) last l hn hm r))
+      go true r = absurd (false≢true (sym s ∙ stands-small (X .board .vertices) (edges (X .board)) (X .board .opened) last l hn hm r))
       go false r = refl
 
   pub finishes : length t ≤ at → readOn X last k (partedBy newline (drop at t)) ≡ complete X
@@ -219,5 +245,6 @@ module _ (t : List ℕ) where
           let h : edgeLimit < n = leb-false n edgeLimit (sym (and-true (leb n edgeLimit)) ∙ s) in
           rw (lt-leb n vertexLimit (omega arith), and-false (leb 1 n))
       go (E-line a b m) s = refl
+      go (O-line v) s = refl
       go (S-line v) s = refl
       go (X-line e) s = refl

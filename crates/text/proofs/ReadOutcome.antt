@@ -21,21 +21,29 @@ use Rattle.text.specs.Scratch.{Sized, Held, ReadsInto}
 
 -- the lent buffers have their lengths
 abbrev pub fit : Buffers → Bool
-fit b = sized (b .ends) (2 * edgeLimit) && sized (b .marks) edgeLimit && sized (b .syndrome) vertexLimit && sized (b .loss) edgeLimit
+fit b =
+    sized (b .ends) (2 * edgeLimit)
+    && sized (b .marks) edgeLimit
+    && sized (b .opened) vertexLimit
+    && sized (b .syndrome) vertexLimit
+    && sized (b .loss) edgeLimit
 
 pub fits-sized : (b : Buffers) → fit b ≡ true → Sized b
 fits-sized b p =
     let e = sized (b .ends) (2 * edgeLimit) in
     let m = sized (b .marks) edgeLimit in
+    let o = sized (b .opened) vertexLimit in
     let s = sized (b .syndrome) vertexLimit in
     let l = sized (b .loss) edgeLimit in
-    let ems = and-left (e && m && s) l p in
-    let em = and-left (e && m) s ems in
+    let emos = and-left (e && m && o && s) l p in
+    let emo = and-left (e && m && o) s emos in
+    let em = and-left (e && m) o emo in
     record {
       ends-long = eqb-true _ _ (and-left e m em);
       marks-long = eqb-true _ _ (and-right e m em);
-      syndrome-long = eqb-true _ _ (and-right (e && m) s ems);
-      loss-long = eqb-true _ _ (and-right (e && m && s) l p);
+      open-long = eqb-true _ _ (and-right (e && m) o emo);
+      syndrome-long = eqb-true _ _ (and-right (e && m && o) s emos);
+      loss-long = eqb-true _ _ (and-right (e && m && o && s) l p);
     }
 
 pub sized-fits : (b : Buffers) → Sized b → fit b ≡ true
@@ -43,6 +51,7 @@ sized-fits b z =
     rw (
       eq-eqb (length (b .ends)) (2 * edgeLimit) (z .ends-long),
       eq-eqb (length (b .marks)) edgeLimit (z .marks-long),
+      eq-eqb (length (b .opened)) vertexLimit (z .open-long),
       eq-eqb (length (b .syndrome)) vertexLimit (z .syndrome-long),
       eq-eqb (length (b .loss)) edgeLimit (z .loss-long),
     )
@@ -62,6 +71,7 @@ copiedOver new old n m =
     record {
       ends = copied (new .ends) (old .ends) (2 * m);
       marks = copied (new .marks) (old .marks) m;
+      opened = copied (new .opened) (old .opened) n;
       syndrome = copied (new .syndrome) (old .syndrome) n;
       loss = copied (new .loss) (old .loss) m;
     }
@@ -92,6 +102,7 @@ copied-filled (complete X) new old h =
     buffersOf
     (laid (new .ends) (old .ends) (2 * m) (h .ends-held) (omega (arith, h .edge-limit, z .ends-long)) i)
     (laid (new .marks) (old .marks) m (h .marks-held) (omega (arith, h .edge-limit, z .marks-long)) i)
+    (laid (new .opened) (old .opened) n (h .open-held) (omega (arith, h .vertex-limit, z .open-long)) i)
     (laid (new .syndrome) (old .syndrome) n (h .syndrome-held) (omega (arith, h .vertex-limit, z .syndrome-long)) i)
     (laid (new .loss) (old .loss) m (h .loss-held) (omega (arith, h .edge-limit, z .loss-long)) i)
 
@@ -116,16 +127,16 @@ module _ (t : List ℕ) (old : Buffers) where
       by-lines = rw (fits, le-leb (length t) textLimit short)
 
       -- as many entries were copied as the reading fills in
-      pub reads : (r : Reading) (new : Buffers) (n m : ℕ) (e k s l : List ℕ) → ReadsInto t r new → n ≡ verticesFilled r
+      pub reads : (r : Reading) (new : Buffers) (n m : ℕ) (e k o s l : List ℕ) → ReadsInto t r new → n ≡ verticesFilled r
           → m ≡ edgesFilled r
           → e ≡ copied (new .ends) (old .ends) (2 * m) → k ≡ copied (new .marks) (old .marks) m
-          → s ≡ copied (new .syndrome) (old .syndrome) n → l ≡ copied (new .loss) (old .loss) m
-          → Reads t old r (buffersOf e k s l)
-      reads r new n m e k s l w vertices edges e-is k-is s-is l-is =
+          → o ≡ copied (new .opened) (old .opened) n → s ≡ copied (new .syndrome) (old .syndrome) n
+          → l ≡ copied (new .loss) (old .loss) m → Reads t old r (buffersOf e k o s l)
+      reads r new n m e k o s l w vertices edges e-is k-is o-is s-is l-is =
           record {
             result = w .result ∙ ap counts (sym by-lines);
             buffers =
-                (λ i. buffersOf (e-is i) (k-is i) (s-is i) (l-is i))
+                (λ i. buffersOf (e-is i) (k-is i) (o-is i) (s-is i) (l-is i))
                 ∙ ap₂ (copiedOver new old) (vertices ∙ ap verticesFilled (w .result)) (edges ∙ ap edgesFilled (w .result))
                 ∙ copied-filled (readText t) new old (w .held)
                 ∙ ap (λ o. filled o old) (sym by-lines);

@@ -3,7 +3,7 @@ use Prim.Native.Nat.{ℕ, _≤_, _<_}
 use mathlib.Core.Path.{_≡_, refl, sym, ap, _∙_}
 use mathlib.Core.Bool.{cond}
 use mathlib.Core.List.{List}
-use lib.ListN.{length, getD}
+use lib.ListN.{length}
 use Rattle.model.specs.declared.refusal.Refusal.the-variants.{MalformedLine}
 use Rattle.model.specs.declared.answers.Reading.the-variants as reading
 use Rattle.model.specs.Text.{refused, readText}
@@ -15,7 +15,7 @@ use Rattle.text.specs.declared.stage.Stage.{Stage}
 use Rattle.text.specs.declared.stage.Stage.the-variants as stage
 use Rattle.text.specs.LineReadings.{ReadsLine}
 use Rattle.text.specs.Order.{meant}
-use Rattle.text.specs.Scratch.{Sized, stored, ReadsInto}
+use Rattle.text.specs.Scratch.{Sized, Clear, stored, ReadsInto}
 use Rattle.text.specs.Stages.{taken, changed, Within, Takes}
 use Rattle.text.proofs.NumberLaws.{first-number}
 use Rattle.text.proofs.ReadLaws.{LineIs, NoLine, line-is, no-line, no-first, first-malformed}
@@ -26,7 +26,7 @@ use Rattle.text.proofs.ProgressLaws.{Progress, into-refused, begins, en
 
 -- the reading before the line that begins at a position: no line as yet, or a sheet that the arrays hold, with something left to read
 abbrev pub Stands : (t : List ℕ) → Buffers → (at k : ℕ) → Stage → Type 0
-Stands t b at k stage.Start = (at ≡ 0) × (Sized b × ((v : ℕ) → getD (b .syndrome) v 0 ≡ 0))
+Stands t b at k stage.Start = (at ≡ 0) × (Sized b × Clear b)
 Stands t b at k (stage.Sheet n m last) = (at < length t) × Progress t b n at k last m
 Stands t b at k stage.Malformed = ⊥
 
@@ -41,8 +41,8 @@ pub record After (t : List ℕ) (b : Buffers) (at next k n m : ℕ) (last : Line
   pub inside : next ≤ length t
   pub progress : Progress t b n next k last m
 
-pub starts : (t : List ℕ) (b : Buffers) → Sized b → ((v : ℕ) → getD (b .syndrome) v 0 ≡ 0) → Reached t b 0 (lineNumber t 0) stage.Start
-starts t b sized zeros = record { numbered = refl; stands = (refl, (sized, zeros)) }
+pub starts : (t : List ℕ) (b : Buffers) → Sized b → Clear b → Reached t b 0 (lineNumber t 0) stage.Start
+starts t b sized clear = record { numbered = refl; stands = (refl, (sized, clear)) }
 
 -- A line that doesn't read, or is not taken, is refused by its number
 
@@ -91,28 +91,28 @@ module _ (t : List ℕ) (b : Buffers) (at k : ℕ) (s : Stage) (w : Reached t b 
     pub never-start : Takes s l b stage.Start b′ → ⊥
     never-start r = go s (w .stands) (r .result)
       where
-        go : (s : Stage) → Stands t b at k s → stage.Start ≡ taken s l → ⊥
+        go : (s : Stage) → Stands t b at k s → stage.Start ≡ taken s l b → ⊥
         go stage.Start v p = begun-not-start l p
-        go (stage.Sheet n m last) v p = taken-not-start n m last l p
+        go (stage.Sheet n m last) v p = taken-not-start n m last l b p
         go stage.Malformed v p = v
 
     -- a line that is not taken changes nothing
     unchanged : Takes s l b stage.Malformed b′ → b′ ≡ b
     unchanged r = r .arrays ∙ go s (r .result)
       where
-        go : (s : Stage) → stage.Malformed ≡ taken s l → changed s l b ≡ b
+        go : (s : Stage) → stage.Malformed ≡ taken s l b → changed s l b ≡ b
         go stage.Start p = refl
-        go (stage.Sheet n m last) p = ap (λ t. cond t (stored m (meant l) b) b) (not-taken n m last l p)
+        go (stage.Sheet n m last) p = ap (λ t. cond t (stored m (meant l) b) b) (not-taken n m last l b p)
         go stage.Malformed p = refl
 
     pub untaken : Takes s l b stage.Malformed b′ → ReadsInto t (reading.Refused (MalformedLine k)) b′
     untaken r = into-refused t b′ (MalformedLine k) (go s (w .stands) (r .result)) (rw (unchanged r) sized)
       where
-        go : (s : Stage) → Stands t b at k s → stage.Malformed ≡ taken s l → readText t ≡ refused (MalformedLine k)
+        go : (s : Stage) → Stands t b at k s → stage.Malformed ≡ taken s l b → readText t ≡ refused (MalformedLine k)
         go stage.Start v p =
             refused-first t at k (w .numbered) (v .0)
             (no-first t l next k′ (first-line t at k (w .numbered) l next k′ (v .0) this-line) (not-begun l p))
-        go (stage.Sheet n m last) v p = ends-out-of-place t b n at k last m (v .1) l next k′ this-line (not-taken n m last l p)
+        go (stage.Sheet n m last) v p = ends-out-of-place t b n at k last m (v .1) l next k′ this-line (not-taken n m last l b p)
         go stage.Malformed v p = absurd v
 
     pub onward : (n m : ℕ) (last : Line) → Takes s l b (stage.Sheet n m last) b′ → After t b′ at next k′ n m last
@@ -130,7 +130,7 @@ module _ (t : List ℕ) (b : Buffers) (at k : ℕ) (s : Stage) (w : Reached t b 
             rw (r .arrays, begun .no-edge, begun .last-is)
             (begins t b l next k′ n (first-line t at k (w .numbered) l next k′ (v .0) this-line) (begun .first) (v .1 .0) (v .1 .1))
         go (stage.Sheet n₀ m₀ last₀) v r =
-            let more = is-taken n₀ m₀ last₀ l n m last (r .result) in
+            let more = is-taken n₀ m₀ last₀ l b n m last (r .result) in
             rw (more .vertices-stay, more .last-is)
             (goes-further t b n₀ at k last₀ m₀ (v .1) l next k′ this-line m b′ (more .may-stand) (stores n₀ m₀ last₀ l b b′ n m last r))
         go stage.Malformed v r = absurd v

@@ -21,28 +21,28 @@ module _ (s : Stage) (l : Line) (b : Buffers) where
   takes-none p = rw p (record { result = refl; arrays = refl })
 
   module _ (n m : ℕ) (last : Line) (sheet : s ≡ stage.Sheet n m last) where
-    pub takes-no-more : mayStand n m (meant last) (meant l) ≡ false → Takes s l b stage.Malformed b
+    pub takes-no-more : mayStand n m (b .opened) (meant last) (meant l) ≡ false → Takes s l b stage.Malformed b
     takes-no-more p = rw sheet (record { result = rw p; arrays = rw p })
 
-    pub takes-on : (m′ : ℕ) (b′ : Buffers) → mayStand n m (meant last) (meant l) ≡ true → Stores m (meant l) b m′ b′
+    pub takes-on : (m′ : ℕ) (b′ : Buffers) → mayStand n m (b .opened) (meant last) (meant l) ≡ true → Stores m (meant l) b m′ b′
         → Takes s l b (stage.Sheet n m′ l) b′
     takes-on m′ b′ p r =
         rw sheet (record { result = rw p (ap (λ i. stage.Sheet n i l) (r .count)); arrays = rw p (r .arrays) })
 
 -- The stage after one line more is known, and the stage before it is a sheet
 
-module _ (n m : ℕ) (last l : Line) where
+module _ (n m : ℕ) (last l : Line) (b : Buffers) where
   pub record TakenBy (n′ m′ : ℕ) (last′ : Line) : Type 0 where
-    pub may-stand : mayStand n m (meant last) (meant l) ≡ true
+    pub may-stand : mayStand n m (b .opened) (meant last) (meant l) ≡ true
     pub vertices-stay : n′ ≡ n
     pub count : m′ ≡ edgesWith m (meant l)
     pub last-is : last′ ≡ l
 
-  pub is-taken : (n′ m′ : ℕ) (last′ : Line) → stage.Sheet n′ m′ last′ ≡ taken (stage.Sheet n m last) l → TakenBy n′ m′ last′
-  is-taken n′ m′ last′ p = go (mayStand n m (meant last) (meant l)) refl p
+  pub is-taken : (n′ m′ : ℕ) (last′ : Line) → stage.Sheet n′ m′ last′ ≡ taken (stage.Sheet n m last) l b → TakenBy n′ m′ last′
+  is-taken n′ m′ last′ p = go (mayStand n m (b .opened) (meant last) (meant l)) refl p
     where
-      go : (b : Bool) → mayStand n m (meant last) (meant l) ≡ b
-          → stage.Sheet n′ m′ last′ ≡ cond b (stage.Sheet n (edgesWith m (meant l)) l) stage.Malformed → TakenBy n′ m′ last′
+      go : (t : Bool) → mayStand n m (b .opened) (meant last) (meant l) ≡ t
+          → stage.Sheet n′ m′ last′ ≡ cond t (stage.Sheet n (edgesWith m (meant l)) l) stage.Malformed → TakenBy n′ m′ last′
       go true q p =
           let stay : n′ ≡ n = cc in
           let more : m′ ≡ edgesWith m (meant l) = cc in
@@ -50,23 +50,23 @@ module _ (n m : ℕ) (last l : Line) where
           record { may-stand = q; vertices-stay = stay; count = more; last-is = this }
       go false q p = zero-one (cc)
 
-  pub not-taken : stage.Malformed ≡ taken (stage.Sheet n m last) l → mayStand n m (meant last) (meant l) ≡ false
-  not-taken p = go (mayStand n m (meant last) (meant l)) refl p
+  pub not-taken : stage.Malformed ≡ taken (stage.Sheet n m last) l b → mayStand n m (b .opened) (meant last) (meant l) ≡ false
+  not-taken p = go (mayStand n m (b .opened) (meant last) (meant l)) refl p
     where
-      go : (b : Bool) → mayStand n m (meant last) (meant l) ≡ b
-          → stage.Malformed ≡ cond b (stage.Sheet n (edgesWith m (meant l)) l) stage.Malformed
-          → mayStand n m (meant last) (meant l) ≡ false
+      go : (t : Bool) → mayStand n m (b .opened) (meant last) (meant l) ≡ t
+          → stage.Malformed ≡ cond t (stage.Sheet n (edgesWith m (meant l)) l) stage.Malformed
+          → mayStand n m (b .opened) (meant last) (meant l) ≡ false
       go true q p = zero-one (cc)
       go false q p = q
 
-  pub taken-not-start : stage.Start ≡ taken (stage.Sheet n m last) l → ⊥
-  taken-not-start p = go (mayStand n m (meant last) (meant l)) p
+  pub taken-not-start : stage.Start ≡ taken (stage.Sheet n m last) l b → ⊥
+  taken-not-start p = go (mayStand n m (b .opened) (meant last) (meant l)) p
     where
-      go : (b : Bool) → stage.Start ≡ cond b (stage.Sheet n (edgesWith m (meant l)) l) stage.Malformed → ⊥
+      go : (t : Bool) → stage.Start ≡ cond t (stage.Sheet n (edgesWith m (meant l)) l) stage.Malformed → ⊥
       go true p = zero-one (cc)
       go false p = zero-one (cc)
 
-  module _ (b b′ : Buffers) (n′ m′ : ℕ) (last′ : Line) (r : Takes (stage.Sheet n m last) l b (stage.Sheet n′ m′ last′) b′) where
+  module _ (b′ : Buffers) (n′ m′ : ℕ) (last′ : Line) (r : Takes (stage.Sheet n m last) l b (stage.Sheet n′ m′ last′) b′) where
     pub stores : Stores m (meant l) b m′ b′
     stores =
         let v = is-taken n′ m′ last′ (r .result) in

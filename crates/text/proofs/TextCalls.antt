@@ -31,7 +31,8 @@ use Rattle.text.proofs.WriteOutcome.{textRules, write-tests}
 
 -- The sheet that is in the reader's buffers: as many entries of each as the counts say.
 abbrev pub sheetIn : ℕ → ℕ → Buffers → Sheet
-sheetIn n m b = sheetOf (boardOf n (take (2 * m) (b .ends)) (take m (b .marks))) (take n (b .syndrome)) (take m (b .loss))
+sheetIn n m b =
+    sheetOf (boardOf n (take (2 * m) (b .ends)) (take m (b .marks)) (take n (b .opened))) (take n (b .syndrome)) (take m (b .loss))
 
 -- Read back: both counts are those of X, and its entries stand in front in each buffer, which leaves X in them.
 pub record ReadBack (X : Sheet) (old : Buffers) (r : Reading) (new : Buffers) : Type 0 where
@@ -113,6 +114,7 @@ sheet-in X old v =
     rw (
       take-at (B .ends) (drop (length (B .ends)) (old .ends)) (2 * edges B) (v .board .inside .two-ends),
       take-at (B .marks) (drop (edges B) (old .marks)) (edges B) refl,
+      take-at (B .opened) (drop (length (B .opened)) (old .opened)) (B .vertices) (v .board .open-bytes .count),
       take-at (X .syndrome) (drop (length (X .syndrome)) (old .syndrome)) (B .vertices) (v .syndrome .count),
       take-at (X .loss) (drop (length (X .loss)) (old .loss)) (edges B) (v .loss .count),
     )

@@ -46,7 +46,7 @@ module _ (X : Sheet) (buffer : List ℕ) where
 
     -- the bytes put are the text
     pub is-text : sheetBytes X ≡ textOf X
-    is-text = text-bytes X (valid .syndrome .count) (valid .loss .count)
+    is-text = text-bytes X (valid .board .open-bytes .count) (valid .syndrome .count) (valid .loss .count)
 
     module _ (k : ℕ) (long : k ≡ length (sheetBytes X)) where
       is-long : length (textOf X) ≡ k

@@ -9,7 +9,7 @@ use lib.ListN.{length, drop}
 use lib.Dec.{leb}
 use Rattle.model.specs.Board.{edgeLimit}
 use Rattle.model.specs.Text as text
-use Rattle.model.specs.Text.{newline, V-line, E-line, S-line, X-line, number, numbersOf, lineOf, andThen, partedBy, lineFrom}
+use Rattle.model.specs.Text.{newline, V-line, E-line, O-line, S-line, X-line, number, numbersOf, lineOf, andThen, partedBy, lineFrom}
 use Rattle.model.specs.LineNumbers.{lineNumber}
 use Rattle.text.specs.declared.line.Line.{Line}
 use Rattle.text.specs.declared.line.Line.the-variants as line
@@ -23,6 +23,7 @@ use Rattle.text.specs.FieldReadings.{limited}
 abbrev pub asLine : text.Line → Line
 asLine (V-line n) = line.Vertices n
 asLine (E-line a b m) = line.Edge (record { 0 = a }) (record { 0 = b }) m
+asLine (O-line v) = line.Open (record { 0 = v })
 asLine (S-line v) = line.Syndrome (record { 0 = v })
 asLine (X-line e) = line.Lost (record { 0 = e })
 

@@ -7,8 +7,8 @@ use mathlib.Core.List.{List, [], _∷_, _++_}
 use lib.ListN.{length, getD}
 use lib.Seq.{sets}
 use Rattle.model.specs.Sums.{Set, ones}
-use Rattle.model.specs.Board.{Sheet, edges}
-use Rattle.model.specs.Text.{newline, tab, letterV, letterE, letterS, letterX, decimal}
+use Rattle.model.specs.Board.{Sheet, edges, isOpen}
+use Rattle.model.specs.Text.{newline, tab, letterV, letterE, letterO, letterS, letterX, decimal}
 
 -- these bytes put at a position, and the position after them
 pub record Puts (bytes out : List ℕ) (at next : ℕ) (out′ : List ℕ) : Type 0 where
@@ -47,5 +47,6 @@ sheetBytes X =
     let B = X .board in
     numberBytes letterV (B .vertices)
     ++ edgesBytes (B .ends) (B .marks) (edges B)
+    ++ listedBytes letterO (isOpen B) (length (B .opened))
     ++ listedBytes letterS (ones (X .syndrome)) (length (X .syndrome))
     ++ listedBytes letterX (ones (X .loss)) (length (X .loss))

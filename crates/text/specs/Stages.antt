@@ -6,7 +6,7 @@ use mathlib.Core.Bool.{cond}
 use mathlib.Core.Option.{Option, none, some}
 use Rattle.model.specs.Board.{vertexLimit, edgeLimit}
 use Rattle.model.specs.Text as text
-use Rattle.model.specs.Text.{V-line, E-line, S-line, X-line, firstLine}
+use Rattle.model.specs.Text.{V-line, E-line, O-line, S-line, X-line, firstLine}
 use Rattle.model.specs.TextOutcomes.{Buffers}
 use Rattle.text.specs.declared.line.Line.{Line}
 use Rattle.text.specs.declared.stage.Stage.{Stage}
@@ -18,6 +18,7 @@ use Rattle.text.specs.Scratch.{stored, edgesWith}
 abbrev pub verticesOf : text.Line → ℕ
 verticesOf (V-line n) = n
 verticesOf (E-line a b m) = 0
+verticesOf (O-line v) = 0
 verticesOf (S-line v) = 0
 verticesOf (X-line e) = 0
 
@@ -29,16 +30,17 @@ withVertices (some n) l = stage.Sheet n 0 l
 abbrev pub begunWith : Line → Stage
 begunWith l = withVertices (firstLine (meant l)) l
 
--- after one line more
-abbrev pub taken : Stage → Line → Stage
-taken stage.Start l = begunWith l
-taken (stage.Sheet n m last) l = cond (mayStand n m (meant last) (meant l)) (stage.Sheet n (edgesWith m (meant l)) l) stage.Malformed
-taken stage.Malformed l = stage.Malformed
+-- after one line more, which may stand or not by the open bytes so far too
+abbrev pub taken : Stage → Line → Buffers → Stage
+taken stage.Start l old = begunWith l
+taken (stage.Sheet n m last) l old =
+    cond (mayStand n m (old .opened) (meant last) (meant l)) (stage.Sheet n (edgesWith m (meant l)) l) stage.Malformed
+taken stage.Malformed l old = stage.Malformed
 
 -- what that changes in the arrays
 abbrev pub changed : Stage → Line → Buffers → Buffers
 changed stage.Start l old = old
-changed (stage.Sheet n m last) l old = cond (mayStand n m (meant last) (meant l)) (stored m (meant l) old) old
+changed (stage.Sheet n m last) l old = cond (mayStand n m (old .opened) (meant last) (meant l)) (stored m (meant l) old) old
 changed stage.Malformed l old = old
 
 -- a sheet within the limits
@@ -48,5 +50,5 @@ Within (stage.Sheet n m last) = (n ≤ vertexLimit) × (m ≤ edgeLimit)
 Within stage.Malformed = Unit {0}
 
 pub record Takes (s : Stage) (l : Line) (old : Buffers) (r : Stage) (new : Buffers) : Type 0 where
-  pub result : r ≡ taken s l
+  pub result : r ≡ taken s l old
   pub arrays : new ≡ changed s l old

@@ -15,10 +15,12 @@ ghost use Rattle.text.specs.LineReadings.{numberParsed, fieldsParsed, li
 // The byte that ends a line.
 pub const NEWLINE: u8 = 10;
 
-// The letters of the four kinds of line.
+// The letters of the five kinds of line.
 pub const LETTER_V: u8 = 86;
 
 pub const LETTER_E: u8 = 69;
+
+pub const LETTER_O: u8 = 79;
 
 pub const LETTER_S: u8 = 83;
 
@@ -32,6 +34,7 @@ pub enum Line {
         second: Vertex,
         mark: u16,
     },
+    Open(Vertex),
     Syndrome(Vertex),
     Lost(Edge),
 }
@@ -103,12 +106,15 @@ fn edge_line(line: &[u8]) -> Parsed
     })
 }
 
-// A line of one number: the three other letters.
+// A line of one number: the four other letters.
 fn number_line(letter: u8, value: u16) -> Parsed
     ensures { λ r. ⌜ r ≡ numberParsed letter value ⌝ }
 {
     if letter == LETTER_V {
         return Parsed::Line(Line::Vertices(value));
+    }
+    if letter == LETTER_O {
+        return Parsed::Line(Line::Open(Vertex(value)));
     }
     if letter == LETTER_S {
         return Parsed::Line(Line::Syndrome(Vertex(value)));

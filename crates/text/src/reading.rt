@@ -12,24 +12,24 @@ use model::limits::ENDS;
 use model::limits::TEXT;
 use model::limits::VERTICES;
 use model::refusal::Refusal;
-ghost use mathlib.Core.Path.{_≡_};
-ghost use Prim.Native.Nat.{ℕ};
-ghost use lib.ListN.{getD};
 ghost use Rattle.model.specs.Lent.{before, after};
 ghost use Rattle.model.specs.TextOutcomes.{buffersOf, Reads};
-ghost use Rattle.text.specs.Scratch.{Sized, ReadsInto};
+ghost use Rattle.text.specs.Scratch.{Sized, Clear, ReadsInto};
 
-// Reads a text line by line into arrays, of which the syndrome's is all 0. A line that doesn't read ends the reading there.
+// Reads a text line by line into arrays, of which those of the open bytes and of the syndrome are all 0. A line that doesn't read ends the
+// reading there.
 fn read_lines(
     text: &[u8],
     ends: &mut [u16; ENDS],
     marks: &mut [u8; EDGES],
+    opened: &mut [u8; VERTICES],
     syndrome: &mut [u8; VERTICES],
     loss: &mut [u8; EDGES],
 ) -> Reading
-    requires { ⌜ Sized (buffersOf (now ends) (now marks) (now syndrome) (now loss)) ⌝ }
-    requires { ⌜ ((v : ℕ) → getD (now syndrome) v 0 ≡ 0) ⌝ }
-    ensures { λ r. ⌜ ReadsInto (before text) r (buffersOf (after ends) (after marks) (after syndrome) (after loss)) ⌝ }
+    requires { ⌜ Sized (buffersOf (now ends) (now marks) (now opened) (now syndrome) (now loss)) ⌝ }
+    requires { ⌜ Clear (buffersOf (now ends) (now marks) (now opened) (now syndrome) (now loss)) ⌝ }
+    ensures { λ r.
+        ⌜ ReadsInto (before text) r (buffersOf (after ends) (after marks) (after opened) (after syndrome) (after loss)) ⌝ }
 {
     let mut lines = lines_of(text);
     let mut stage = Stage::Start;
@@ -37,7 +37,7 @@ fn read_lines(
         let LineRead::Line { line, next, number } = next_line(lines) else {
             return Reading::Refused(Refusal::MalformedLine(lines.number));
         };
-        stage = take_line(stage, line, ends, marks, syndrome, loss);
+        stage = take_line(stage, line, ends, marks, opened, syndrome, loss);
         let Stage::Sheet {
             vertices,
             edges,
@@ -68,15 +68,17 @@ pub fn read(
     text: &[u8],
     ends: &mut [u16],
     marks: &mut [u8],
+    opened: &mut [u8],
     syndrome: &mut [u8],
     loss: &mut [u8],
 ) -> Reading
     ensures { λ r.
-        ⌜ Reads (before text) (buffersOf (before ends) (before marks) (before syndrome) (before loss))
-        r (buffersOf (after ends) (after marks) (after syndrome) (after loss)) ⌝ }
+        ⌜ Reads (before text) (buffersOf (before ends) (before marks) (before opened) (before syndrome) (before loss))
+        r (buffersOf (after ends) (after marks) (after opened) (after syndrome) (after loss)) ⌝ }
 {
     let fit = (ends.len() == ENDS)
         & (marks.len() == EDGES)
+        & (opened.len() == VERTICES)
         & (syndrome.len() == VERTICES)
         & (loss.len() == EDGES);
     if !fit {
@@ -87,12 +89,14 @@ pub fn read(
     }
     let mut new_ends = [0u16; ENDS];
     let mut new_marks = [0u8; EDGES];
+    let mut new_opened = [0u8; VERTICES];
     let mut new_syndrome = [0u8; VERTICES];
     let mut new_loss = [0u8; EDGES];
     let reading = read_lines(
         text,
         &mut new_ends,
         &mut new_marks,
+        &mut new_opened,
         &mut new_syndrome,
         &mut new_loss,
     );
@@ -105,6 +109,7 @@ pub fn read(
     };
     copy_numbers(&new_ends, 2 * filled.edges, ends);
     copy_bytes(&new_marks, filled.edges, marks);
+    copy_bytes(&new_opened, filled.vertices, opened);
     copy_bytes(&new_syndrome, filled.vertices, syndrome);
     copy_bytes(&new_loss, filled.edges, loss);
     reading

@@ -33,6 +33,7 @@ fn vertices_of(line: Line) -> u16
             second: _,
             mark: _,
         } => 0,
+        Line::Open(_) => 0,
         Line::Syndrome(_) => 0,
         Line::Lost(_) => 0,
     }
@@ -62,13 +63,14 @@ pub fn take_line(
     line: Line,
     ends: &mut [u16; ENDS],
     marks: &mut [u8; EDGES],
+    opened: &mut [u8; VERTICES],
     syndrome: &mut [u8; VERTICES],
     loss: &mut [u8; EDGES],
 ) -> Stage
     requires { ⌜ Within stage ⌝ }
     ensures { λ r.
-        ⌜ Takes stage line (buffersOf (before ends) (before marks) (before syndrome) (before loss))
-        r (buffersOf (after ends) (after marks) (after syndrome) (after loss)) ⌝ }
+        ⌜ Takes stage line (buffersOf (before ends) (before marks) (before opened) (before syndrome) (before loss))
+        r (buffersOf (after ends) (after marks) (after opened) (after syndrome) (after loss)) ⌝ }
 {
     match stage {
         Stage::Start => begin(line),
@@ -77,12 +79,12 @@ pub fn take_line(
             edges,
             last,
         } => {
-            if !may_stand(last, line, vertices, edges) {
+            if !may_stand(last, line, vertices, edges, opened) {
                 return Stage::Malformed;
             }
             Stage::Sheet {
                 vertices,
-                edges: store(line, edges, ends, marks, syndrome, loss),
+                edges: store(line, edges, ends, marks, opened, syndrome, loss),
                 last: line,
             }
         }

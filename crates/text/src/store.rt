@@ -14,13 +14,14 @@ pub fn store(
     edges: u16,
     ends: &mut [u16; ENDS],
     marks: &mut [u8; EDGES],
+    opened: &mut [u8; VERTICES],
     syndrome: &mut [u8; VERTICES],
     loss: &mut [u8; EDGES],
 ) -> u16
     requires { ⌜ Storable edges (meant line) ⌝ }
     ensures { λ r.
-        ⌜ Stores edges (meant line) (buffersOf (before ends) (before marks) (before syndrome) (before loss))
-        r (buffersOf (after ends) (after marks) (after syndrome) (after loss)) ⌝ }
+        ⌜ Stores edges (meant line) (buffersOf (before ends) (before marks) (before opened) (before syndrome) (before loss))
+        r (buffersOf (after ends) (after marks) (after opened) (after syndrome) (after loss)) ⌝ }
 {
     match line {
         Line::Vertices(_) => edges,
@@ -37,6 +38,10 @@ pub fn store(
             marks[e] = mark as u8;
             loss[e] = 0;
             edges + 1
+        }
+        Line::Open(v) => {
+            opened[v.0 as usize] = 1;
+            edges
         }
         Line::Syndrome(v) => {
             syndrome[v.0 as usize] = 1;

@@ -1,3 +1,4 @@
+use crate::line::LETTER_O;
 use crate::line::LETTER_S;
 use crate::line::LETTER_V;
 use crate::line::LETTER_X;
@@ -23,7 +24,8 @@ ghost use Rattle.model.specs.Board.{boardOf, sheetOf, edgeLimit};
 ghost use Rattle.model.specs.TextOutcomes.{Writes};
 ghost use Rattle.text.specs.Printing.{Puts, edgesBytes, sheetBytes};
 
-// The longest text of any sheet: 7 bytes for `V`, 14 for an edge, 7 for a syndrome vertex and for a lost edge.
+// The longest text of any sheet: 7 bytes for `V`, 14 for an edge, 7 for a vertex that is open or in the syndrome (none is both), and 7 for
+// a lost edge.
 const LONGEST: usize = 7 + 14 * EDGES + 7 * VERTICES + 7 * EDGES;
 
 // Puts an `E` line for each edge.
@@ -50,17 +52,19 @@ fn put_sheet(
     vertices: usize,
     ends: &[u16],
     marks: &[u8],
+    opened: &[u8],
     syndrome: &[u8],
     loss: &[u8],
     out: &mut [u8],
 ) -> usize
     requires { ⌜ (length (now ends) ≡ 2 * length (now marks)) × (length (now marks) ≤ edgeLimit) ⌝ }
-    requires { ⌜ length (sheetBytes (sheetOf (boardOf vertices (now ends) (now marks)) (now syndrome) (now loss)))
+    requires { ⌜ length (sheetBytes (sheetOf (boardOf vertices (now ends) (now marks) (now opened)) (now syndrome) (now loss)))
         ≤ length (now out) ⌝ }
-    ensures { λ r. ⌜ Puts (sheetBytes (sheetLent vertices ends marks syndrome loss)) (before out) 0 r (after out) ⌝ }
+    ensures { λ r. ⌜ Puts (sheetBytes (sheetLent vertices ends marks opened syndrome loss)) (before out) 0 r (after out) ⌝ }
 {
     let edges_at = put_line(out, 0, LETTER_V, vertices);
-    let syndrome_at = put_edges(out, edges_at, ends, marks);
+    let opened_at = put_edges(out, edges_at, ends, marks);
+    let syndrome_at = put_listed(out, opened_at, LETTER_O, opened);
     let loss_at = put_listed(out, syndrome_at, LETTER_S, syndrome);
     put_listed(out, loss_at, LETTER_X, loss)
 }
@@ -70,17 +74,26 @@ pub fn write(
     vertices: usize,
     ends: &[u16],
     marks: &[u8],
+    opened: &[u8],
     syndrome: &[u8],
     loss: &[u8],
     text: &mut [u8],
 ) -> Written
-    ensures { λ r. ⌜ Writes (sheetLent vertices ends marks syndrome loss) (before text) r (after text) ⌝ }
+    ensures { λ r. ⌜ Writes (sheetLent vertices ends marks opened syndrome loss) (before text) r (after text) ⌝ }
 {
-    if let Check::Failed(refusal) = check_sheet(vertices, ends, marks, syndrome, loss, true) {
+    if let Check::Failed(refusal) = check_sheet(
+        vertices,
+        ends,
+        marks,
+        opened,
+        syndrome,
+        loss,
+        true,
+    ) {
         return Written::Refused(refusal);
     }
     let mut lines = [0u8; LONGEST];
-    let length = put_sheet(vertices, ends, marks, syndrome, loss, &mut lines);
+    let length = put_sheet(vertices, ends, marks, opened, syndrome, loss, &mut lines);
     if TEXT < length {
         return Written::Refused(Refusal::TextLength);
     }

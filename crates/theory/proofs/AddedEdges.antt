@@ -10,14 +10,14 @@ use lib.ListN.{length, length-append, List·getD-append}
 use lib.Seq.{getD-append-add, getD-append-seam}
 use lib.Dec.{leb, ltb}
 use Rattle.model.specs.Sums.{values}
-use Rattle.model.specs.Board.{Board, Valid, edges, edgeLimit}
-use Rattle.model.specs.Text.{edgeInRange, Line, V-line, E-line, S-line, X-line, edgeLine}
+use Rattle.model.specs.Board.{Board, boardOf, Valid, edges, edgeLimit}
+use Rattle.model.specs.Text.{edgeInRange, Line, V-line, E-line, O-line, S-line, X-line, edgeLine}
 use Rattle.model.proofs.Xor.{and-left, and-right}
 use Rattle.model.proofs.SumLaws.{below-suc}
 use Rattle.model.proofs.ListLaws.{values-cong, values-last}
 
 abbrev pub plus : Board → ℕ → ℕ → ℕ → Board
-plus B a b m = record { vertices = B .vertices; ends = B .ends ++ (a ∷ b ∷ []); marks = B .marks ++ (m ∷ []) }
+plus B a b m = boardOf (B .vertices) (B .ends ++ (a ∷ b ∷ [])) (B .marks ++ (m ∷ [])) (B .opened)
 
 module _ (B : Board) (two-ends : length (B .ends) ≡ 2 * edges B) (a b m : ℕ) where
   pub edges-plus : edges (plus B a b m) ≡ suc (edges B)
@@ -62,6 +62,7 @@ module _ (B : Board) (two-ends : length (B .ends) ≡ 2 * edges B) (a b m : ℕ)
 abbrev pub FitsLine : ℕ → Line → Type 0
 FitsLine n (V-line k) = ⊥
 FitsLine n (E-line a b m) = (a < n) × (b < n) × (m ≤ 3)
+FitsLine n (O-line v) = ⊥
 FitsLine n (S-line v) = ⊥
 FitsLine n (X-line e) = ⊥
 
@@ -118,4 +119,5 @@ plus-valid B a b m w new =
             second-in-range = λ e h. fit e h .1;
           };
       mark-in-range = λ e h. fit e h .2;
+      open-bytes = w .open-bytes;
     }

@@ -115,16 +115,11 @@ unfolding readOutcome readRefusal
 read-last text old k =
     other-number (read-numbers text old) (MalformedLine k) refl refused (readText text) (λ q e. cc)
 
--- The writer
+-- The writer: 16 and 17 before 12 and 14
 
-pub write-smallest : (X : Sheet) (buffer : List ℕ) (r : Refusal) → (writeRefusal X buffer ≡ some r) ↔ Smallest (writeRules X buffer) r
+pub write-decides : (X : Sheet) (buffer : List ℕ) (r : Refusal) → (writeRefusal X buffer ≡ some r) ↔ Decides (writeRules X buffer) r
 unfolding writeRefusal
-write-smallest X buffer = smallest-exactly (write-numbers X buffer) refl
-
-pub write-answers : (X : Sheet) (buffer : List ℕ) (q : Refusal) → Applies (writeRules X buffer) q
-    → AnswersSmallest (writeRules X buffer) written.Refused (writeAnswer X buffer)
-unfolding writeAnswer writeRefusal
-write-answers X buffer = answers-smallest (write-numbers X buffer) refl written.Refused (written.Bytes (length (textOf X)))
+write-decides X buffer = decides-exactly (write-numbers X buffer)
 
 -- The torus builder: 11 before 3
 

@@ -1,25 +1,27 @@
--- The correction: where no part is odd it has the syndrome, and it is the only subset of the forest that has it.
+-- The subset of the forest with given odd ends: where every part holds an even number of them it has them, and it is the only subset of the
+-- forest that has them.
 -- Assumes nothing.
 use Prim.Native.Nat.{ℕ, _<_}
-use mathlib.Core.Path.{_≡_, refl, sym, ap, ap₂, _∙_, subst}
+use mathlib.Core.Path.{_≡_, refl, sym, ap, ap₂, _∙_, subst, fun-ext}
 use mathlib.Core.Bool.{Bool, true, false, not, _&&_, and-true, true≢false, false≢true}
 use mathlib.Core.List.{List}
 use borrow.Author.Tests.{eqb-true, eq-eqb, ne-eqb, not-true}
 use lib.Dec.{eqb}
 use Rattle.model.specs.Sums.{Set, _⊕_, ones, bytes}
 use Rattle.model.specs.Board.{Board, Inside, edges, firstEnd, secondEnd}
-use Rattle.model.specs.Syndrome.{meets, syndrome, HasSyndrome}
+use Rattle.model.specs.Syndrome.{meets, oddEnd, HasOddEnds}
 use Rattle.model.specs.Winding.{together}
 use Rattle.model.specs.Components.{label, labels, within}
-use Rattle.model.specs.Growth.{odd}
+use Rattle.model.specs.Growth.{oddlyLit}
 use Rattle.model.specs.Forest.{forest}
-use Rattle.model.specs.Correction.{without, oddSide, correction}
+use Rattle.model.specs.Correction.{without, oddSide, spanned}
 use Rattle.model.proofs.Xor.{xor-self, xor-comm, not-true-false, and-left, and-right, and-both}
 use Rattle.model.proofs.ListLaws.{ones-bytes}
+use Rattle.model.proofs.SumLaws.{odd-cong}
 use Rattle.theory.proofs.Totals.{xor-through}
 use Rattle.theory.proofs.OddMembers.{odd-one}
-use Rattle.theory.proofs.GrowthRun.{NoneOdd}
-use Rattle.theory.proofs.Syndromes.{syndrome-empty, syndrome-edge, syndrome-together, has-syndrome-cong, cut-syndrome}
+use Rattle.theory.proofs.GrowthRun.{EvenlyLit}
+use Rattle.theory.proofs.Syndromes.{odd-end-empty, odd-end-edge, odd-end-together, has-ends-cong, cut-ends}
 use Rattle.theory.proofs.Connected.{Connected, alone, along, back, chain}
 use Rattle.theory.proofs.Components.{connected-part, part-connected, labels-cong}
 use Rattle.theory.proofs.Forests.{Within, forest-acyclic}
@@ -27,17 +29,17 @@ use Rattle.theory.proofs.Existence.{peeled}
 
 -- Cutting the forest at an edge
 
--- a set of edges of G whose syndrome is u and v
+-- a set of edges of G whose odd ends are u and v
 record Link (B : Board) (G : Set) (u v : ℕ) : Type 0 where
   set : Set
   inside : (e : ℕ) → set e ≡ true → G e ≡ true
-  ends : (w : ℕ) → syndrome B set w ≡ eqb u w ⊕ eqb v w
+  ends : (w : ℕ) → oddEnd B set w ≡ eqb u w ⊕ eqb v w
 
 link : (B : Board) (G : Set) {u v : ℕ} → Connected B G (edges B) u v → Link B G u v
 link B G (alone v) =
-    record { set = λ e. false; inside = λ e p. absurd (false≢true p); ends = λ w. syndrome-empty B w ∙ sym (xor-self (eqb v w)) }
+    record { set = λ e. false; inside = λ e p. absurd (false≢true p); ends = λ w. odd-end-empty B w ∙ sym (xor-self (eqb v w)) }
 link B G (along e h p) =
-    record { set = eqb e; inside = λ i q. subst (λ j. G j ≡ true) (eqb-true e i q) p; ends = λ w. syndrome-edge B true e h w }
+    record { set = eqb e; inside = λ i q. subst (λ j. G j ≡ true) (eqb-true e i q) p; ends = λ w. odd-end-edge B true e h w }
 link B G (back {u} {v} c) =
     let l = link B G c in
     record { set = l .set; inside = l .inside; ends = λ w. l .ends w ∙ xor-comm (eqb u w) (eqb v w) }
@@ -48,7 +50,7 @@ link B G (chain {u} {v} {w} c d) = joined (link B G c) (link B G d)
         record {
           set = together (k .set) (l .set);
           inside = λ e p. either e (k .set e) refl p;
-          ends = λ x. syndrome-together B (k .set) (l .set) x ∙ ap₂ _⊕_ (k .ends x) (l .ends x) ∙ xor-through (eqb u x) (eqb v x) (eqb w x);
+          ends = λ x. odd-end-together B (k .set) (l .set) x ∙ ap₂ _⊕_ (k .ends x) (l .ends x) ∙ xor-through (eqb u x) (eqb v x) (eqb w x);
         }
       where
         either : (e : ℕ) (t : Bool) → k .set e ≡ t → (t ⊕ l .set e) ≡ true → G e ≡ true
@@ -70,10 +72,10 @@ cut-apart B r F e h p c = true≢false (sym here ∙ forest-acyclic B r F (toget
     inner : Within B (together (l .set) (eqb e)) (forest B F)
     inner = record { holds = λ i u q. either i (l .set i) refl q }
 
-    closed : HasSyndrome B (together (l .set) (eqb e)) (λ v. false)
+    closed : HasOddEnds B (together (l .set) (eqb e)) (λ v. false)
     closed =
         record {
-          at = λ v u. syndrome-together B (l .set) (eqb e) v ∙ ap₂ _⊕_ (l .ends v) (syndrome-edge B true e h v) ∙ xor-self (meets B e v);
+          at = λ v u. odd-end-together B (l .set) (eqb e) v ∙ ap₂ _⊕_ (l .ends v) (odd-end-edge B true e h v) ∙ xor-self (meets B e v);
         }
 
     out : l .set e ≡ false
@@ -84,26 +86,38 @@ cut-apart B r F e h p c = true≢false (sym here ∙ forest-acyclic B r F (toget
     here : together (l .set) (eqb e) e ≡ true
     here = rw (out, eq-eqb e e refl)
 
--- The correction
+-- The subset
 
 -- the bytes of the forest stand for the forest
-correction-is : (B : Board) (F S : Set) (e : ℕ) → correction B F S e ≡ (forest B F e && oddSide B (without (forest B F) e) S (firstEnd B e))
-unfolding correction oddSide
-correction-is B F S e =
-    ap (λ l. forest B F e && odd B l S (label l (firstEnd B e)))
+spanned-is : (B : Board) (F S : Set) (e : ℕ) → spanned B F S e ≡ (forest B F e && oddSide B (without (forest B F) e) S (firstEnd B e))
+unfolding spanned oddSide
+spanned-is B F S e =
+    ap (λ l. forest B F e && oddlyLit B l S (label l (firstEnd B e)))
     (labels-cong B (without (ones (bytes (edges B) (forest B F))) e) (without (forest B F) e)
     (λ i h. ap (λ t. t && not (eqb i e)) (ones-bytes (edges B) (forest B F) i h)))
 
-pub correction-in-forest : (B : Board) (F S : Set) → Within B (correction B F S) (forest B F)
-correction-in-forest B F S = record { holds = λ e h p. and-left (forest B F e) _ (sym (correction-is B F S e) ∙ p) }
+-- only the vertices below the vertex count matter
+pub spanned-cong : (B : Board) (F R R′ : Set) → ((v : ℕ) → v < B .vertices → R v ≡ R′ v) → spanned B F R ≡ spanned B F R′
+unfolding spanned oddSide oddlyLit
+spanned-cong B F R R′ same =
+    fun-ext (λ e.
+    ap (λ t. forest B F e && t) (side (labels B (without (ones (bytes (edges B) (forest B F))) e)) (firstEnd B e)))
+  where
+    side : (l : List ℕ) (u : ℕ) → oddlyLit B l R (label l u) ≡ oddlyLit B l R′ (label l u)
+    side l u =
+        odd-cong (B .vertices) (λ v. R v && within l (label l u) v) (λ v. R′ v && within l (label l u) v)
+        (λ v h. ap (λ t. t && within l (label l u) v) (same v h))
 
--- a subset of the forest with the syndrome has edge e exactly where the side of its first end is odd: only e can cross the cut
-side-odd : (B : Board) → Inside B → (F D S : Set) → Within B D (forest B F) → HasSyndrome B D S → (e : ℕ) → e < edges B
+pub spanned-in-forest : (B : Board) (F S : Set) → Within B (spanned B F S) (forest B F)
+spanned-in-forest B F S = record { holds = λ e h p. and-left (forest B F e) _ (sym (spanned-is B F S e) ∙ p) }
+
+-- a subset of the forest with the odd ends has edge e exactly where the side of its first end is odd: only e can cross the cut
+side-odd : (B : Board) → Inside B → (F D S : Set) → Within B D (forest B F) → HasOddEnds B D S → (e : ℕ) → e < edges B
     → forest B F e ≡ true
     → oddSide B (without (forest B F) e) S (firstEnd B e) ≡ D e
-unfolding oddSide odd
+unfolding oddSide oddlyLit
 side-odd B r F D S sub has e h p =
-    cut-syndrome B r A D S has ∙ odd-one (edges B) e crossing h (λ i u apart. others i u apart (D i) refl) ∙ itself
+    cut-ends B r A D S has ∙ odd-one (edges B) e crossing h (λ i u apart. others i u apart (D i) refl) ∙ itself
   where
     G : Set
     G = without (forest B F) e
@@ -133,18 +147,18 @@ side-odd B r F D S sub has e h p =
         )
         (and-true (D e))
 
--- any subset of the forest with the syndrome is the correction
-pub correction-unique : (B : Board) → Inside B → (F D S : Set) → Within B D (forest B F) → HasSyndrome B D S → (e : ℕ) → e < edges B
-    → D e ≡ correction B F S e
-correction-unique B r F D S sub has e h = go (forest B F e) refl ∙ sym (correction-is B F S e)
+-- any subset of the forest with these odd ends is the one
+pub spanned-unique : (B : Board) → Inside B → (F D S : Set) → Within B D (forest B F) → HasOddEnds B D S → (e : ℕ) → e < edges B
+    → D e ≡ spanned B F S e
+spanned-unique B r F D S sub has e h = go (forest B F e) refl ∙ sym (spanned-is B F S e)
   where
     go : (t : Bool) → forest B F e ≡ t → D e ≡ (forest B F e && oddSide B (without (forest B F) e) S (firstEnd B e))
     go true p = rw (p, side-odd B r F D S sub has e h p)
     go false p = rw p (not-true-false (D e) (λ q. false≢true (sym p ∙ sub .holds e h q)))
 
--- where no part is odd, the correction has the syndrome
-pub correction-has-syndrome : (B : Board) → Inside B → (F S : Set) → NoneOdd B (labels B F) S → HasSyndrome B (correction B F S) S
-correction-has-syndrome B r F S even =
+-- where every part holds an even number of them, it has them
+pub spanned-has-ends : (B : Board) → Inside B → (F S : Set) → EvenlyLit B (labels B F) S → HasOddEnds B (spanned B F S) S
+spanned-has-ends B r F S even =
     let w = peeled B r F S even in
-    has-syndrome-cong B (correction B F S) (w .set) S
-    (λ e h. sym (correction-unique B r F (w .set) S (record { holds = λ i u q. w .inside i q }) (w .has) e h)) (w .has)
+    has-ends-cong B (spanned B F S) (w .set) S
+    (λ e h. sym (spanned-unique B r F (w .set) S (record { holds = λ i u q. w .inside i q }) (w .has) e h)) (w .has)

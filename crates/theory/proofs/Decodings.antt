@@ -8,7 +8,7 @@ use mathlib.Core.Option.{none, some}
 use Rattle.model.specs.declared.refusal.Refusal.{Refusal}
 use Rattle.model.specs.declared.answers.Decoded.the-variants.{Key, Refused}
 use Rattle.model.specs.Sums.{Set, ones}
-use Rattle.model.specs.Board.{Board, Inside, Sheet}
+use Rattle.model.specs.Board.{Board, Inside, Unlit, Sheet}
 use Rattle.model.specs.Syndrome.{HasSyndrome}
 use Rattle.model.specs.Winding.{size}
 use Rattle.model.specs.Growth.{full, clusters, Policy}
@@ -18,7 +18,7 @@ use Rattle.model.specs.Refusals.{noneAt, oddPartTest, decodeRefusal}
 use Rattle.model.specs.Outcomes.{answer, keyOrNone, decodeAnswer}
 use Rattle.theory.proofs.GrowthRun.{NoneOdd, Feeds, Reached, grown-ends}
 use Rattle.theory.proofs.Forests.{Within, forest-inside}
-use Rattle.theory.proofs.Corrections.{correction-in-forest, correction-has-syndrome}
+use Rattle.theory.proofs.OddEnds.{correction-in-forest, correction-has-syndrome}
 use Rattle.theory.proofs.GrowthBound.{growth-ends}
 
 -- The answer: number 10 with the smallest vertex of all odd parts, or the key
@@ -64,12 +64,17 @@ module _ (policy : Board → Set → Policy) (X : Sheet) where
   corrected-full =
       record { holds = λ e h p. forest-inside (X .board) (full (grownBy policy X .support)) e (corrected-in-forest .holds e h p) }
 
-  module _ (r : Inside (X .board)) (f : Feeds (X .board) lit (policy (X .board) lit)) (p : smallestOdd (X .board) lit ≡ none) where
-    -- no cluster is odd in the end
-    pub key-even : NoneOdd (X .board) (clusters (X .board) (grownBy policy X .support)) lit
-    unfolding grownBy
-    key-even = growth-ends (X .board) r lit (ones (X .loss)) (policy (X .board) lit) f p
+  module _
+      (r : Inside (X .board))
+      (unlit : Unlit (X .board) lit)
+      (f : Feeds (X .board) lit (policy (X .board) lit))
+      (p : smallestOdd (X .board) lit ≡ none)
+    where
+      -- no cluster is odd in the end
+      pub key-even : NoneOdd (X .board) (clusters (X .board) (grownBy policy X .support)) lit
+      unfolding grownBy
+      key-even = growth-ends (X .board) r lit (ones (X .loss)) (policy (X .board) lit) f unlit p
 
-    pub corrected-has-syndrome : HasSyndrome (X .board) (peeled X (grownBy policy X)) lit
-    unfolding peeled clusters
-    corrected-has-syndrome = correction-has-syndrome (X .board) r (full (grownBy policy X .support)) lit key-even
+      pub corrected-has-syndrome : HasSyndrome (X .board) (peeled X (grownBy policy X)) lit
+      unfolding peeled clusters
+      corrected-has-syndrome = correction-has-syndrome (X .board) r (full (grownBy policy X .support)) lit key-even unlit

@@ -44,9 +44,9 @@ pub demand3 : (X : Sheet) → ValidSheet X → (r : Decoded) (C : Set) → r ≡
     → Demand3 (X .board) (ones (X .syndrome)) (ones (X .loss)) r C
 unfolding keyOrNone
 demand3 X valid r C result is =
-    sound-key weighted X range feeds Refused Key decoded-cases C is (Bounded (X .board) (ones (X .loss)) C)
+    sound-key weighted X range (valid .unlit) feeds Refused Key decoded-cases C is (Bounded (X .board) (ones (X .loss)) C)
     (λ p. reached-bounded (X .board) range (ones (X .syndrome)) (ones (X .loss)) C (key-reached weighted X)
-    (is-inside weighted X range feeds C is p) (is-met weighted X range feeds C is p))
+    (is-inside weighted X range (valid .unlit) feeds C is p) (is-met weighted X range (valid .unlit) feeds C is p))
     r result
   where
     range : Inside (X .board)

@@ -1,5 +1,5 @@
 -- The distance (model, Distance): it is reached by a winding loop, none is smaller, and there is none exactly where nothing winds. It is
--- the length of a shortest closed walk that crosses some line an odd number of times. Assumes nothing.
+-- the length of a shortest closed walk that crosses some line an odd number of times, where no vertex is open. Assumes nothing.
 use Prim.Native.Nat.{ℕ, zero, suc, _≤_, _<_, min}
 use mathlib.Core.Path.{_≡_, refl, sym, ap, subst, _∙_}
 use mathlib.Core.Bool.{Bool, true, false, cond, _||_, false≢true}
@@ -16,6 +16,7 @@ use Rattle.model.specs.Winding.{winds, size}
 use Rattle.model.specs.Distance.{lesser, with, fewestFrom, fewest}
 use Rattle.model.proofs.Xor.{not-true-false}
 use Rattle.model.proofs.SumLaws.{count-cong}
+use Rattle.theory.proofs.Syndromes.{Sealed}
 use Rattle.theory.proofs.CrossedLines.{Line, winds-cong}
 use Rattle.theory.proofs.Walks.{Walk, walkCrosses, passedOddly}
 use Rattle.theory.proofs.ShortLoops.{passed-size, walk-winds, ShortWalksUnmarked}
@@ -153,10 +154,10 @@ pub record Shortest (B : Board) (l : List ℕ) : Type 0 where
   pub count : size B (passedOddly l) ≡ length l
   pub distance : fewest B ≡ some (length l)
 
-pub shortest-walk : (B : Board) → Inside B → (u k : ℕ) (l : List ℕ) (x : Line) → Walk B u l u → walkCrosses B x l ≡ true
+pub shortest-walk : (B : Board) → Inside B → Sealed B → (u k : ℕ) (l : List ℕ) (x : Line) → Walk B u l u → walkCrosses B x l ≡ true
     → length l ≡ suc k → ShortWalksUnmarked B k → Shortest B l
-shortest-walk B r u k l x p c long short =
-    let above = walks-above-loops B r k short .above in
+shortest-walk B r shut u k l x p c long short =
+    let above = walks-above-loops B r shut k short .above in
     let w = walk-winds p x c in
     let count : size B (passedOddly l) ≡ length l = omega (arith, passed-size B l, above (passedOddly l) w) in
     record {

@@ -12,7 +12,7 @@ use borrow.Author.Tests.{eqb-true, eq-eqb, ne-eqb, not-true, not-false, ltb-true
 use lib.Dec.{eqb, ltb}
 use Rattle.model.specs.Sums.{Set, _⊕_, oddUpTo}
 use Rattle.model.specs.Board.{Board, Inside, edges, firstEnd, secondEnd}
-use Rattle.model.specs.Syndrome.{syndrome, HasSyndrome}
+use Rattle.model.specs.Syndrome.{oddEnd, HasOddEnds}
 use Rattle.model.specs.Components.{label, merge, join, labelsUpTo, within}
 use Rattle.model.specs.Forest.{parted, takenUpTo, forest}
 use Rattle.model.proofs.Xor.{xor-self, not-true-false, and-left, and-right, and-both}
@@ -84,7 +84,7 @@ pub record Within (B : Board) (D G : Set) : Type 0 where
   pub holds : (e : ℕ) → e < edges B → D e ≡ true → G e ≡ true
 
 -- The largest edge of a closed set joins two vertices that smaller edges connect: across the part of its first end, only it could cross.
-pub cycle-closes : (B : Board) → Inside B → (D F : Set) (e : ℕ) → HasSyndrome B D (λ v. false) → e < edges B → D e ≡ true
+pub cycle-closes : (B : Board) → Inside B → (D F : Set) (e : ℕ) → HasOddEnds B D (λ v. false) → e < edges B → D e ≡ true
     → ((i : ℕ) → i < e → D i ≡ true → F i ≡ true) → ((i : ℕ) → e < i → i < edges B → D i ≡ false)
     → label (labelsUpTo B F e) (firstEnd B e) ≡ label (labelsUpTo B F e) (secondEnd B e)
 cycle-closes B r D F e closed h here below above = sym (eqb-true _ _ (not-false _ (sym crosses ∙ sym (cut B r A D) ∙ none)))
@@ -95,8 +95,8 @@ cycle-closes B r D F e closed h here below above = sym (eqb-true _ _ (not-false 
     A : Set
     A v = within l (label l (firstEnd B e)) v
 
-    none : oddUpTo (B .vertices) (λ v. A v && syndrome B D v) ≡ false
-    none = odd-none (B .vertices) (λ v. A v && syndrome B D v) (λ v u. ap (λ t. A v && t) (closed .at v u) ∙ and-false (A v))
+    none : oddUpTo (B .vertices) (λ v. A v && oddEnd B D v) ≡ false
+    none = odd-none (B .vertices) (λ v. A v && oddEnd B D v) (λ v u. ap (λ t. A v && t) (closed .at v u) ∙ and-false (A v))
 
     inner : (i : ℕ) → i < e → (t : Bool) → D i ≡ t → (D i && (A (firstEnd B i) ⊕ A (secondEnd B i))) ≡ false
     inner i u true p = rw (p, edge-label B F e i u (below i u p)) (xor-self (A (secondEnd B i)))
@@ -112,7 +112,7 @@ cycle-closes B r D F e closed h here below above = sym (eqb-true _ _ (not-false 
         ∙ rw (here, eq-eqb (label l (firstEnd B e)) (label l (firstEnd B e)) refl)
 
 -- Acyclic: a closed subset of the forest is empty.
-pub forest-acyclic : (B : Board) → Inside B → (F D : Set) → Within B D (forest B F) → HasSyndrome B D (λ v. false) → (e : ℕ) → e < edges B
+pub forest-acyclic : (B : Board) → Inside B → (F D : Set) → Within B D (forest B F) → HasOddEnds B D (λ v. false) → (e : ℕ) → e < edges B
     → D e ≡ false
 forest-acyclic B r F D sub closed e h = from (edges B) 0 (omega arith) e (omega arith) h
   where

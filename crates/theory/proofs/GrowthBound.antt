@@ -13,11 +13,11 @@ use borrow.Author.Tests.{eqb-false}
 use lib.ListN.{getD}
 use lib.Dec.{eqb}
 use Rattle.model.specs.Sums.{Set, _⊕_, bit, countUpTo}
-use Rattle.model.specs.Board.{Board, Inside, edges, firstEnd, secondEnd}
+use Rattle.model.specs.Board.{Board, Inside, Unlit, edges, firstEnd, secondEnd}
 use Rattle.model.specs.Syndrome.{HasSyndrome}
 use Rattle.model.specs.Winding.{size}
 use Rattle.model.specs.Components.{within}
-use Rattle.model.specs.Growth.{full, clusters, odd, swell, Policy, grown}
+use Rattle.model.specs.Growth.{full, clusters, swell, Policy, grown}
 use Rattle.model.specs.Correction.{correction}
 use Rattle.model.specs.Decoding.{smallestOdd}
 use Rattle.model.specs.Demand3.{keptEdges}
@@ -26,7 +26,7 @@ use Rattle.model.proofs.SumLaws.{below-suc, count-bound, Some}
 use Rattle.theory.proofs.OddMembers.{odd-found}
 use Rattle.theory.proofs.Totals.{sumUpTo, sum-mono}
 use Rattle.theory.proofs.GrowthRun.{OddPart, NoneOdd, Fed, Feeds, Reached, begin, after, grown-ends}
-use Rattle.theory.proofs.Syndromes.{cut-syndrome}
+use Rattle.theory.proofs.OddParts.{odd-cut}
 use Rattle.theory.proofs.Connected.{along}
 use Rattle.theory.proofs.Components.{connected-part}
 use Rattle.theory.proofs.NoCorrection.{some-correction}
@@ -63,10 +63,9 @@ paid B lost E s = sumUpTo (edges B) (λ e. cond (kept lost E e) (getD s e 0) 0)
 -- an odd cluster is left by some edge of E, which is not full
 crossing-edge : (B : Board) → Inside B → (S E : Set) → HasSyndrome B E S → (s : List ℕ) (a : ℕ) → OddPart B (clusters B s) S a
     → Some (edges B) (λ e. E e && (within (clusters B s) a (firstEnd B e) ⊕ within (clusters B s) a (secondEnd B e)))
-unfolding odd
 crossing-edge B r S E has s a o =
     odd-found (edges B) (λ e. E e && (within (clusters B s) a (firstEnd B e) ⊕ within (clusters B s) a (secondEnd B e)))
-    (sym (cut-syndrome B r (within (clusters B s) a) E S has) ∙ o .is-odd)
+    (odd-cut B (clusters B s) S a r E has (o .is-odd))
 
 crossing-open : (B : Board) (s : List ℕ) (a e : ℕ) → e < edges B
     → (within (clusters B s) a (firstEnd B e) ⊕ within (clusters B s) a (secondEnd B e)) ≡ true → full s e ≡ false
@@ -163,12 +162,12 @@ module _ (B : Board) (r : Inside B) (S lost : Set) (p : Policy) (f : Feeds B S p
 
   -- Where there is a correction, growth ends
 
-  module _ (none-odd : smallestOdd B S ≡ none) where
+  module _ (unlit : Unlit B S) (none-odd : smallestOdd B S ≡ none) where
     -- at most two growths for each edge
     pub growth-limit : {s : List ℕ} {g : ℕ} → Reached B p lost s g → g ≤ 2 * edges B
     growth-limit c =
         let E = correction B (λ e. true) S in
-        omega (arith, growth-bound E (some-correction B r S none-odd) c, count-bound (edges B) (kept lost E))
+        omega (arith, growth-bound E (some-correction B r S unlit none-odd) c, count-bound (edges B) (kept lost E))
 
     -- as long as the policy names some there are fewer
     pub growth-left : {s : List ℕ} {g : ℕ} {R : Set} → Reached B p lost s g → p s ≡ some R → g < 2 * edges B

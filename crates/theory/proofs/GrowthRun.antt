@@ -12,9 +12,13 @@ use native.Mathlib.Omega.{arith}
 use Rattle.model.specs.Sums.{Set}
 use Rattle.model.specs.Board.{Board, edges}
 use Rattle.model.specs.Components.{within}
-use Rattle.model.specs.Growth.{start, clusters, odd, swell, Policy, chosen, Grown, growFrom, grown}
+use Rattle.model.specs.Growth.{start, clusters, oddlyLit, odd, swell, Policy, chosen, Grown, growFrom, grown}
 
 -- Odd clusters
+
+-- no part holds an odd number of R
+pub record EvenlyLit (B : Board) (l : List ℕ) (R : Set) : Type 0 where
+  pub even : (a : ℕ) → a < B .vertices → oddlyLit B l R a ≡ false
 
 -- the part labelled a is odd
 pub record OddPart (B : Board) (l : List ℕ) (S : Set) (a : ℕ) : Type 0 where

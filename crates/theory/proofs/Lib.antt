@@ -1,6 +1,7 @@
 pub mod GrowthRun
 pub mod OddMembers
 pub mod Syndromes
+pub mod OddParts
 pub mod Connected
 pub mod Components
 pub mod JoinedLabels
@@ -8,6 +9,7 @@ pub mod MarksAside
 pub mod Forests
 pub mod Existence
 pub mod Corrections
+pub mod OddEnds
 pub mod SmallestOdd
 pub mod NoCorrection
 pub mod WeightedGrowth
@@ -28,6 +30,7 @@ pub mod RoundGrowth
 pub mod Decodings
 pub mod SoundKeys
 pub mod Distances
+pub mod Identified
 pub mod LoopEdges
 pub mod VerdictGround
 pub mod Spreading

@@ -27,15 +27,15 @@ use Rattle.theory.proofs.TextReading.{refused-complete, Spells, spelt-o
 
 -- a text is one line without a newline, or a line with its newline and a text after it
 data Lines : List ℕ → Type 0 where
-  open-line : {bs : List ℕ} → Without newline bs → Lines bs
+  bare-line : {bs : List ℕ} → Without newline bs → Lines bs
   full-line : {bs cs : List ℕ} → Without newline bs → Lines cs → Lines (bs ++ newline ∷ cs)
 
 in-front : {bs : List ℕ} (b : ℕ) → b ≢ newline → Lines bs → Lines (b ∷ bs)
-in-front b h (open-line w) = open-line (besides h w)
+in-front b h (bare-line w) = bare-line (besides h w)
 in-front b h (full-line w later) = full-line (besides h w) later
 
 lines : (text : List ℕ) → Lines text
-lines [] = open-line nowhere
+lines [] = bare-line nowhere
 lines (b ∷ bs) = go (lines bs) (eqb b newline) refl
   where
     go : Lines bs → (t : Bool) → eqb b newline ≡ t → Lines (b ∷ bs)
@@ -43,10 +43,10 @@ lines (b ∷ bs) = go (lines bs) (eqb b newline) refl
     go later false e = in-front b (eqb-false b newline e) later
 
 -- the first line of each
-first-open : {bs : List ℕ} → Without newline bs → firstLineOf bs ≡ bs
+first-bare : {bs : List ℕ} → Without newline bs → firstLineOf bs ≡ bs
 unfolding firstLineOf
-first-open nowhere = refl
-first-open (besides {b = b} h w) = rw (ne-eqb b newline h, first-open w)
+first-bare nowhere = refl
+first-bare (besides {b = b} h w) = rw (ne-eqb b newline h, first-bare w)
 
 first-full : {bs : List ℕ} → Without newline bs → (cs : List ℕ) → firstLineOf (bs ++ newline ∷ cs) ≡ bs ++ newline ∷ []
 unfolding firstLineOf
@@ -96,10 +96,10 @@ or-refused k none short long later un = refl
 or-refused k (some a) short long later un = later a un
 
 -- a last line without a newline, and a line that others follow
-on-open : (X : Sheet) (last : Line) (k : ℕ) (bs : List ℕ) → Unread (readOn X last k (bs ∷ [])) → readOn X last k (bs ∷ []) ≡ refused (MalformedLine k)
+on-bare : (X : Sheet) (last : Line) (k : ℕ) (bs : List ℕ) → Unread (readOn X last k (bs ∷ [])) → readOn X last k (bs ∷ []) ≡ refused (MalformedLine k)
 unfolding readOn
-on-open X last k [] un = absurd (un X refl)
-on-open X last k (b ∷ bs) un = refl
+on-bare X last k [] un = absurd (un X refl)
+on-bare X last k (b ∷ bs) un = refl
 
 on-full : (X : Sheet) (last : Line) (k : ℕ) (bs : List ℕ) {pieces : List (List ℕ)} → NotEmpty pieces
     → Unread (readOn X last k (bs ∷ partedBy newline [])) → readOn X last k (bs ∷ pieces) ≡ refused (MalformedLine k)
@@ -109,8 +109,8 @@ on-full X last k bs not-empty un =
 
 on-refused : (X : Sheet) (last : Line) (k : ℕ) {rest : List ℕ} → Lines rest
     → Unread (readOn X last k (partedBy newline (firstLineOf rest))) → readOn X last k (partedBy newline rest) ≡ refused (MalformedLine k)
-on-refused X last k (open-line {bs = bs} w) un =
-    rw (parted-one w) (on-open X last k bs (rw (first-open w, parted-one w) at un))
+on-refused X last k (bare-line {bs = bs} w) un =
+    rw (parted-one w) (on-bare X last k bs (rw (first-bare w, parted-one w) at un))
 on-refused X last k (full-line {bs = bs} {cs = cs} w later) un =
     rw (parted-first cs w) (on-full X last k bs (parted-not-empty newline cs) (rw (first-full w cs, parted-first [] w) at un))
 
@@ -123,7 +123,7 @@ lines-full bs not-empty un =
 
 text-refused : {text : List ℕ} → Lines text → Unread (readText (firstLineOf text)) → readText text ≡ refused (MalformedLine 1)
 unfolding readText readLines
-text-refused (open-line w) un = rw (parted-one w)
+text-refused (bare-line w) un = rw (parted-one w)
 text-refused (full-line {bs = bs} {cs = cs} w later) un =
     rw (parted-first cs w) (lines-full bs (parted-not-empty newline cs) (rw (first-full w cs, parted-first [] w) at un))
 
@@ -179,7 +179,7 @@ moved before bs cs = append-snoc (before ++ bs) newline cs ∙ append-assoc befo
 -- line after line: the lines so far with the next are a text, or that line is malformed
 seek : (before : List ℕ) {rest : List ℕ} → Lines rest → LineBegins (before ++ rest) (length before) → (before ≡ []) ⊎ IsText before
     → (IsText (before ++ rest) → ⊥) → SomeMalformed (before ++ rest)
-seek before (open-line {bs = bs} w) b ok un = here before bs b ok (rw (first-open w) un)
+seek before (bare-line {bs = bs} w) b ok un = here before bs b ok (rw (first-bare w) un)
 seek before (full-line {bs = bs} {cs = cs} w later) b ok un =
     let whole : IsText (before ++ bs ++ newline ∷ [] ++ cs) → ⊥ = rw (moved before bs cs) un in
     go

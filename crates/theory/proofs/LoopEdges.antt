@@ -13,13 +13,13 @@ use borrow.Author.Tests.{eq-eqb, ne-eqb}
 use lib.ListN.{getD}
 use lib.Dec.{eqb}
 use Rattle.model.specs.Sums.{Set, _⊕_, bit}
-use Rattle.model.specs.Board.{Board, Sheet, Valid, LoopEdge, edges, firstEnd, secondEnd, mark}
-use Rattle.model.specs.Syndrome.{meets, syndrome}
+use Rattle.model.specs.Board.{Board, Sheet, Valid, LoopEdge, edges, firstEnd, secondEnd, mark, isOpen}
+use Rattle.model.specs.Syndrome.{meets, oddEnd, syndrome}
 use Rattle.model.specs.Winding.{closed, crossings, winds, together, size}
 use Rattle.model.specs.Components.{label}
 use Rattle.model.specs.Growth.{swell, Policy}
 use Rattle.model.specs.Forest.{takenUpTo, forest}
-use Rattle.model.specs.Correction.{without, correction}
+use Rattle.model.specs.Correction.{without, spanned, correction}
 use Rattle.model.specs.Decoding.{grownBy, peeled}
 use Rattle.model.specs.Demand3.{lostEdges, keptEdges}
 use Rattle.model.specs.Distance.{fewest}
@@ -28,7 +28,7 @@ use Rattle.model.proofs.Xor.{xor-self, xor-false, not-true-false, and-both}
 use Rattle.model.proofs.SumLaws.{odd-cong, odd-at, odd-none}
 use Rattle.model.proofs.CountLaws.{count-before, count-more}
 use Rattle.theory.proofs.Totals.{count-at}
-use Rattle.theory.proofs.Syndromes.{syndrome-together, syndrome-edge}
+use Rattle.theory.proofs.Syndromes.{syndrome-together, odd-end-edge, even-closed}
 use Rattle.theory.proofs.CrossedLines.{Line, lineA, lineB, crosses, crossesOddly, closed-true, unmarked-unwound}
 use Rattle.theory.proofs.GrowthRun.{Reached, reached-holds}
 use Rattle.theory.proofs.Supports.{start-at, swell-at}
@@ -100,16 +100,21 @@ module _ (B : Board) (e : ℕ) (h : e < edges B) (same : LoopEdge B e) where
   loop-meets : (v : ℕ) → meets B e v ≡ false
   loop-meets v = ap (λ u. eqb u v ⊕ eqb (secondEnd B e) v) same ∙ xor-self (eqb (secondEnd B e) v)
 
+  loop-even : (v : ℕ) → oddEnd B (only e) v ≡ false
+  loop-even v = odd-end-edge B true e h v ∙ loop-meets v
+
   -- Theorem: it adds nothing to any syndrome.
   pub loop-unlit : (D : Set) (v : ℕ) → syndrome B (together D (only e)) v ≡ syndrome B D v
+  unfolding syndrome
   loop-unlit D v =
       syndrome-together B D (only e) v
-      ∙ ap (λ t. syndrome B D v ⊕ t) (syndrome-edge B true e h v ∙ loop-meets v)
+      ∙ ap (λ t. syndrome B D v ⊕ (not (isOpen B v) && t)) (loop-even v)
+      ∙ ap (λ t. syndrome B D v ⊕ t) (and-false (not (isOpen B v)))
       ∙ xor-false (syndrome B D v)
 
   -- Theorem: it is closed by itself.
   pub loop-closed : closed B (only e) ≡ true
-  loop-closed = closed-true B (only e) (record { at = λ v l. syndrome-edge B true e h v ∙ loop-meets v })
+  loop-closed = closed-true B (only e) (even-closed B (only e) (record { at = λ v l. loop-even v }))
 
   -- Theorem: it winds exactly where its mark is not 0.
   pub loop-winds : Valid B → winds B (only e) ≡ not (eqb (mark B e) 0)
@@ -144,7 +149,7 @@ module _ (B : Board) (e : ℕ) (h : e < edges B) (same : LoopEdge B e) where
   loop-untaken F = rw (same, eq-eqb (label (takenUpTo B F e) (secondEnd B e)) (label (takenUpTo B F e) (secondEnd B e)) refl) (and-false (F e))
 
   pub loop-uncorrected : (F S : Set) → correction B F S e ≡ false
-  unfolding correction
+  unfolding correction spanned
   loop-uncorrected F S = rw (loop-untaken F)
 
   -- Theorem: where it is marked, the distance is 1.

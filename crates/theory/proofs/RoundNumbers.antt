@@ -4,7 +4,7 @@
 -- Assumes nothing.
 use Prim.Native.Nat.{ℕ, _+_, _<_, min}
 use mathlib.Core.Path.{_≡_, refl, sym, ap, ap₂, _∙_}
-use mathlib.Core.Bool.{Bool, true, false, cond, not, true≢false, false≢true}
+use mathlib.Core.Bool.{Bool, true, false, cond, not, _&&_, true≢false, false≢true}
 use mathlib.Core.Logic.{_⊎_, inl, inr}
 use mathlib.Core.List.{List}
 use native.Mathlib.Omega.{arith}
@@ -12,14 +12,16 @@ use borrow.Author.Tests.{eqb-true, eqb-false}
 use lib.ListN.{getD}
 use lib.Dec.{eqb}
 use Rattle.model.specs.Sums.{Set, _⊕_, bit}
-use Rattle.model.specs.Board.{Board, Inside, edges, firstEnd, secondEnd}
+use Rattle.model.specs.Board.{Board, Inside, edges, firstEnd, secondEnd, isOpen}
 use Rattle.model.specs.Components.{label, within}
-use Rattle.model.specs.Growth.{start, full, clusters, odd, inOdd, swell}
-use Rattle.model.proofs.Xor.{not-true-false}
+use Rattle.model.specs.Growth.{start, full, clusters, oddlyLit, holdsOpen, odd, inOdd, swell}
+use Rattle.model.proofs.Xor.{not-true-false, and-left, and-right}
+use Rattle.model.proofs.SumLaws.{Some, some-found}
+use Rattle.theory.proofs.OddParts.{odd-lit, lit-odd, odd-avoids}
 use Rattle.theory.proofs.Connected.{along, connected-keeps, connected-mono}
 use Rattle.theory.proofs.Components.{connected-part, part-connected}
 use Rattle.theory.proofs.PartParity.{Union, union-even}
-use Rattle.theory.proofs.WeightedGrowth.{odd-named}
+use Rattle.theory.proofs.WeightedGrowth.{lit-named, odd-named}
 use Rattle.theory.proofs.Supports.{Supports, start-at, swell-at, swell-full}
 
 -- numbers that fit the supports, with the number q on every odd cluster
@@ -128,10 +130,12 @@ module _ (B : Board) (r : Inside B) (S lost : Set) (s : List ℕ) (w : Supports 
       go true f = absurd (true≢false (sym (swell-full B lost s R w e h f) ∙ p))
       go false f = ended (edge-turned e h f)
 
-  -- a cluster whose number after the round is q has no vertex of a cluster that was odd, so it is a union of even clusters
+  -- an odd cluster whose number after the round is q has no vertex of a cluster that was odd, so it would be a union of evenly lit clusters
   turn-odds : (v : ℕ) → v < B .vertices → inOdd B (clusters B next) S v ≡ true → turn v ≡ not q
-  unfolding clusters odd
-  turn-odds v h is-odd = other (turn v) q (λ p. true≢false (sym is-odd ∙ union-even B r (full s) S A union (λ a k i. not-true-false _ (λ o. none p a k i o))))
+  unfolding clusters oddlyLit holdsOpen
+  turn-odds v h is-odd =
+      other (turn v) q (λ p. true≢false (sym (odd-lit B (clusters B next) S (label (clusters B next) v) is-odd)
+      ∙ union-even B r (full s) S A union (λ a k i. not-true-false _ (λ o. none p a k i (shut-odd a k i o)))))
     where
       A : Set
       A = within (clusters B next) (label (clusters B next) v)
@@ -146,6 +150,18 @@ module _ (B : Board) (r : Inside B) (S lost : Set) (s : List ℕ) (w : Supports 
                 (record { less = λ e k f. k; holds = λ e k f. swell-full B lost s R w e k f })
                 (part-connected B (full s) r u t hu ht p)));
           }
+
+      -- the cluster is odd, so that it holds no open vertex, and a part of it holds none
+      shut-odd : (a : ℕ) → a < B .vertices → A a ≡ true → oddlyLit B (clusters B s) S a ≡ true → odd B (clusters B s) S a ≡ true
+      shut-odd a k i o =
+          lit-odd B (clusters B s) S a o (not-true-false (holdsOpen B (clusters B s) a) (λ p. outside (some-found (B .vertices) _ p)))
+        where
+          outside : Some (B .vertices) (λ u. isOpen B u && within (clusters B s) a u) → ⊥
+          outside u =
+              let opens = and-left (isOpen B (u .at)) _ (u .holds) in
+              let own = eqb-true (label (clusters B s) (u .at)) a (and-right (isOpen B (u .at)) _ (u .holds)) in
+              let in-it = union .same (u .at) a (u .less) k (own ∙ sym (lit-named B (full s) S r a o)) ∙ i in
+              true≢false (sym opens ∙ odd-avoids B (clusters B next) S (label (clusters B next) v) is-odd .shut (u .at) (u .less) in-it)
 
       none : turn v ≡ q → (a : ℕ) → a < B .vertices → A a ≡ true → odd B (clusters B s) S a ≡ true → ⊥
       none p a k i o =

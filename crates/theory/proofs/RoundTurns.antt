@@ -15,17 +15,20 @@ use Rattle.model.specs.Board.{Board, Inside, edges, firstEnd, secondEnd}
 use Rattle.model.specs.Syndrome.{HasSyndrome}
 use Rattle.model.specs.Components.{label, within}
 use Rattle.model.specs.Growth.{full, clusters, odd, inOdd, swell}
+use Rattle.model.specs.Identified.{identified}
 use Rattle.model.proofs.Xor.{and-left, and-right, and-both}
-use Rattle.model.proofs.SumLaws.{some-found, some-here, none-some, odd-cong}
+use Rattle.model.proofs.SumLaws.{some-found, some-here, none-some}
 use Rattle.theory.proofs.Connected.{Connected, alone, connected-keeps, EdgesAmong, connected-mono}
 use Rattle.theory.proofs.Components.{part-below, part-connected, connected-part, part-smallest}
 use Rattle.theory.proofs.JoinedLabels.{same-test}
+use Rattle.theory.proofs.OddParts.{odd-within, odd-avoids}
 use Rattle.theory.proofs.GrowthRun.{Fed}
 use Rattle.theory.proofs.WeightedGrowth.{odd-named}
 use Rattle.theory.proofs.Supports.{Supports, swell-at, swell-full, swell-cong, swell-twice, swell-none, swell-supports}
 use Rattle.theory.proofs.GrowthBound.{paid, paid-rises}
 use Rattle.theory.proofs.RoundNumbers.{Numbered, one-cluster}
-use Rattle.theory.proofs.Spreading.{OnePart, Spread, spreads}
+use Rattle.theory.proofs.Spreading.{OnePart, Spread}
+use Rattle.theory.proofs.NotWinding.{spreads-identified}
 
 -- an edge that is not full, one end of which has not grown yet, is not full before that end's turn: d says whether the other end has grown
 short : (x y d : Bool) → (d ≡ true → x ≡ y) → (bit x + bit y ≡ 2 → ⊥) → min 2 (bit x + bit y + bit d) ≡ 2 → ⊥
@@ -159,15 +162,12 @@ module _ (B : Board) (r : Inside B) (S lost : Set) (s : List ℕ) (w : Supports 
         (λ p. eq-eqb (label (clusters B (stage a)) v) a (connected-part B (full (stage a)) (joined v h p) ∙ still-named))
 
     turn-fed : Fed B S (stage a) (within l a)
-    unfolding odd
     turn-fed =
         record {
           cluster = a;
           part = record {
             below = k;
-            is-odd =
-                odd-cong (B .vertices) (λ v. S v && within (clusters B (stage a)) a v) (λ v. S v && within l a v) (λ v h. ap (λ t. S v && t) (still v h))
-                ∙ o;
+            is-odd = odd-within B (clusters B (stage a)) l S a still ∙ o;
           };
           covers = λ v h p. sym (still v h) ∙ p;
         }
@@ -177,9 +177,9 @@ module _ (B : Board) (r : Inside B) (S lost : Set) (s : List ℕ) (w : Supports 
 
   -- the odd clusters with labels below a have had their turns
 
-  module _ (E : Set) (has : HasSyndrome B E S) (g : ℕ) (c : Spread B lost s g) (enough : g ≤ paid B lost E s) where
+  module _ (E : Set) (has : HasSyndrome B E S) (g : ℕ) (c : Spread (identified B) lost s g) (enough : g ≤ paid B lost E s) where
     pub record Turns (a : ℕ) : Type 0 where
-      pub spread : Spread B lost (stage a) (g + countUpTo a (odd B l S))
+      pub spread : Spread (identified B) lost (stage a) (g + countUpTo a (odd B l S))
       pub pays : g + countUpTo a (odd B l S) ≤ paid B lost E (stage a)
 
     pub turns-taken : (a : ℕ) → a ≤ B .vertices → Turns a
@@ -187,7 +187,7 @@ module _ (B : Board) (r : Inside B) (S lost : Set) (s : List ℕ) (w : Supports 
     turns-taken zero h =
         let still-s = swell-none B r lost s w (below 0) (λ v k. refl) in
         record {
-          spread = rw (still-s) (subst (Spread B lost s) (omega arith) c);
+          spread = rw (still-s) (subst (Spread (identified B) lost s) (omega arith) c);
           pays = rw (still-s) (omega arith);
         }
     turns-taken (suc a) h = go (turns-taken a (omega arith)) (odd B l S a) refl
@@ -195,12 +195,14 @@ module _ (B : Board) (r : Inside B) (S lost : Set) (s : List ℕ) (w : Supports 
         go : Turns a → (t : Bool) → odd B l S a ≡ t → Turns (suc a)
         go y false p =
             record {
-              spread = rw (stage-even a p, p) (subst (Spread B lost (stage a)) (omega arith) (y .spread));
+              spread = rw (stage-even a p, p) (subst (Spread (identified B) lost (stage a)) (omega arith) (y .spread));
               pays = rw (stage-even a p, p) (omega (arith, y .pays));
             }
         go y true p =
             record {
-              spread = rw (stage-odd a p, p) (subst (Spread B lost (swell B (stage a) (within l a))) (omega arith) (spreads (y .spread) (turn-part a h p)));
+              spread = rw (stage-odd a p, p)
+                  (subst (Spread (identified B) lost (swell B (stage a) (within l a))) (omega arith)
+                  (spreads-identified B r lost (y .spread) (odd-avoids B l S a p) (turn-part a h p)));
               pays =
                   rw (stage-odd a p, p)
                   (omega (

@@ -11,12 +11,13 @@ use lib.ListN.{length}
 use lib.Dec.{eqb}
 use Rattle.model.specs.Sums.{Set, _⊕_, oddUpTo}
 use Rattle.model.specs.Board.{Board, edges, firstEnd, secondEnd}
-use Rattle.model.specs.Syndrome.{meets, syndrome}
+use Rattle.model.specs.Syndrome.{meets, oddEnd}
 use Rattle.model.specs.Winding.{winds, size}
 use Rattle.model.specs.Demand3.{EveryLoopAbove}
 use Rattle.model.proofs.Xor.{xor-and, xor-self, xor-comm, not-true-false}
 use Rattle.model.proofs.SumLaws.{odd-cong, odd-false, odd-xor, odd-at, count-none}
 use Rattle.theory.proofs.Totals.{xor-through, count-xor, count-at}
+use Rattle.theory.proofs.Syndromes.{even-closed}
 use Rattle.theory.proofs.CrossedLines.{Line, crosses, crossesOddly, Closed, marked-winds}
 use Rattle.theory.proofs.Walks.{Along, forth, back, Walk, stop, step, oddAlong, walkCrosses, passedOddly}
 
@@ -42,12 +43,12 @@ walk-differs {u = u} stop f = sym (xor-self (f u))
 walk-differs {v = w} (step {u = u} {v = v} h a p) f = ap₂ _⊕_ (along-differs a f) (walk-differs p f) ∙ xor-through (f u) (f v) (f w)
 
 -- the odd edges of a walk touch an odd number of times its two ends alone
-pub passed-syndrome : {B : Board} {u v : ℕ} {l : List ℕ} → Walk B u l v → (w : ℕ) → syndrome B (passedOddly l) w ≡ eqb u w ⊕ eqb v w
-unfolding syndrome
-passed-syndrome {B} p w = passed-parity p (λ e. meets B e w) ∙ walk-differs p (λ u. eqb u w)
+pub passed-ends : {B : Board} {u v : ℕ} {l : List ℕ} → Walk B u l v → (w : ℕ) → oddEnd B (passedOddly l) w ≡ eqb u w ⊕ eqb v w
+unfolding oddEnd
+passed-ends {B} p w = passed-parity p (λ e. meets B e w) ∙ walk-differs p (λ u. eqb u w)
 
 pub passed-closed : {B : Board} {u : ℕ} {l : List ℕ} → Walk B u l u → Closed B (passedOddly l)
-passed-closed {u = u} p = record { at = λ v h. passed-syndrome p v ∙ xor-self (eqb u v) }
+passed-closed {B} {u} {l} p = even-closed B (passedOddly l) (record { at = λ v h. passed-ends p v ∙ xor-self (eqb u v) })
 
 -- they are at most as many as the walk is long
 pub passed-size : (B : Board) (l : List ℕ) → size B (passedOddly l) ≤ length l

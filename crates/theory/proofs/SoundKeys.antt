@@ -7,7 +7,7 @@ use mathlib.Core.Option.{Option, none, some}
 use Rattle.model.specs.declared.refusal.Refusal.{Refusal}
 use Rattle.model.specs.declared.refusal.Refusal.the-variants.{NoCorrection}
 use Rattle.model.specs.Sums.{Set, ones}
-use Rattle.model.specs.Board.{Board, Inside, Sheet, edges}
+use Rattle.model.specs.Board.{Board, Inside, Unlit, Sheet, edges}
 use Rattle.model.specs.Syndrome.{HasSyndrome}
 use Rattle.model.specs.Winding.{size}
 use Rattle.model.specs.Growth.{full, Policy}
@@ -49,35 +49,41 @@ module _ {A : Type 0} (refused : Refusal → A) (key : ℕ → ℕ → A) (cases
 pub record IsCorrection (policy : Board → Set → Policy) (X : Sheet) (C : Set) : Type 0 where
   pub at : smallestOdd (X .board) (ones (X .syndrome)) ≡ none → (e : ℕ) → e < edges (X .board) → C e ≡ peeled X (grownBy policy X) e
 
-module _ (policy : Board → Set → Policy) (X : Sheet) (r : Inside (X .board)) (f : Feeds (X .board) (ones (X .syndrome)) (policy (X .board) (ones (X .syndrome)))) where
-  abbrev B : Board
-  B = X .board
+module _
+    (policy : Board → Set → Policy)
+    (X : Sheet)
+    (r : Inside (X .board))
+    (unlit : Unlit (X .board) (ones (X .syndrome)))
+    (f : Feeds (X .board) (ones (X .syndrome)) (policy (X .board) (ones (X .syndrome))))
+  where
+    abbrev B : Board
+    B = X .board
 
-  abbrev S : Set
-  S = ones (X .syndrome)
+    abbrev S : Set
+    S = ones (X .syndrome)
 
-  module _ (C : Set) (is : IsCorrection policy X C) (p : smallestOdd B S ≡ none) where
-    pub is-met : HasSyndrome B C S
-    is-met = has-syndrome-cong B C (peeled X (grownBy policy X)) S (is .at p) (corrected-has-syndrome policy X r f p)
+    module _ (C : Set) (is : IsCorrection policy X C) (p : smallestOdd B S ≡ none) where
+      pub is-met : HasSyndrome B C S
+      is-met = has-syndrome-cong B C (peeled X (grownBy policy X)) S (is .at p) (corrected-has-syndrome policy X r unlit f p)
 
-    pub is-inside : Within B C (full (grownBy policy X .support))
-    is-inside = record { holds = λ e h q. corrected-full policy X .holds e h (sym (is .at p e h) ∙ q) }
+      pub is-inside : Within B C (full (grownBy policy X .support))
+      is-inside = record { holds = λ e h q. corrected-full policy X .holds e h (sym (is .at p e h) ∙ q) }
 
-  -- at most two growths, or rounds, for each kept edge of a set that has the syndrome
-  pub few-growths : (E : Set) → HasSyndrome B E S → grownBy policy X .count ≤ 2 * keptEdges B (ones (X .loss)) E
-  few-growths E has = growth-bound B r S (ones (X .loss)) (policy B S) f E has (key-reached policy X)
+    -- at most two growths, or rounds, for each kept edge of a set that has the syndrome
+    pub few-growths : (E : Set) → HasSyndrome B E S → grownBy policy X .count ≤ 2 * keptEdges B (ones (X .loss)) E
+    few-growths E has = growth-bound B r S (ones (X .loss)) (policy B S) f E has (key-reached policy X)
 
-  -- The whole, from what is to hold of each set that has the syndrome.
-  pub sound-key : {A : Type 0} (refused : Refusal → A) (key : ℕ → ℕ → A) → Cases refused key → (C : Set) → IsCorrection policy X C
-      → (Each : ℕ → Set → Type 0) → (smallestOdd B S ≡ none → (E : Set) → HasSyndrome B E S → Each (grownBy policy X .count) E)
-      → (a : A) → a ≡ answer (oddPartTest X) refused (key (grownBy policy X .count) (size B (peeled X (grownBy policy X))))
-      → SoundKey refused key B S C Each a
-  sound-key {A} refused key cases C is Each each a result = go (smallestOdd B S) refl
-    where
-      w : A
-      w = key (grownBy policy X .count) (size B (peeled X (grownBy policy X)))
+    -- The whole, from what is to hold of each set that has the syndrome.
+    pub sound-key : {A : Type 0} (refused : Refusal → A) (key : ℕ → ℕ → A) → Cases refused key → (C : Set) → IsCorrection policy X C
+        → (Each : ℕ → Set → Type 0) → (smallestOdd B S ≡ none → (E : Set) → HasSyndrome B E S → Each (grownBy policy X .count) E)
+        → (a : A) → a ≡ answer (oddPartTest X) refused (key (grownBy policy X .count) (size B (peeled X (grownBy policy X))))
+        → SoundKey refused key B S C Each a
+    sound-key {A} refused key cases C is Each each a result = go (smallestOdd B S) refl
+      where
+        w : A
+        w = key (grownBy policy X .count) (size B (peeled X (grownBy policy X)))
 
-      go : (o : Option ℕ) → smallestOdd B S ≡ o → SoundKey refused key B S C Each a
-      go (some v) p =
-          refused-sound refused key cases B S C Each a v (result ∙ odd-answer refused w X v p) (no-correction-unmet B r S v p)
-      go none p = key-sound refused key cases B S C Each a _ _ (result ∙ even-answer refused w X p) (is-met C is p) (each p)
+        go : (o : Option ℕ) → smallestOdd B S ≡ o → SoundKey refused key B S C Each a
+        go (some v) p =
+            refused-sound refused key cases B S C Each a v (result ∙ odd-answer refused w X v p) (no-correction-unmet B r S v p)
+        go none p = key-sound refused key cases B S C Each a _ _ (result ∙ even-answer refused w X p) (is-met C is p) (each p)

@@ -8,7 +8,7 @@ use mathlib.Core.Option.{Option, none, some}
 use Rattle.model.specs.declared.answers.RoundsDecoded.{RoundsDecoded}
 use Rattle.model.specs.declared.answers.RoundsDecoded.the-variants.{RoundsKey, Refused}
 use Rattle.model.specs.Sums.{Set, ones, bytes}
-use Rattle.model.specs.Board.{Board, Inside, Sheet, ValidSheet, edges}
+use Rattle.model.specs.Board.{Board, Inside, Unlit, Sheet, ValidSheet, edges}
 use Rattle.model.specs.Syndrome.{HasSyndrome}
 use Rattle.model.specs.Winding.{winds, together, size}
 use Rattle.model.specs.Growth.{full, clusters}
@@ -19,6 +19,7 @@ use Rattle.model.specs.Refusals.{noneAt, decodeRefusal}
 use Rattle.model.specs.RoundsOutcomes.{roundsOrNone, roundsAnswer, roundsOr, DecodesInRounds, SoundRounds}
 use Rattle.model.proofs.Contradiction.{zero-one}
 use Rattle.model.proofs.ListLaws.{ones-bytes}
+use Rattle.theory.proofs.Syndromes.{Sealed}
 use Rattle.theory.proofs.GrowthRun.{NoneOdd, Feeds}
 use Rattle.theory.proofs.RoundGrowth.{rounds-feed}
 use Rattle.theory.proofs.Decodings.{odd-answer, even-answer, key-reached, key-even, corrected-full, corrected-has-syndrome}
@@ -26,26 +27,26 @@ use Rattle.theory.proofs.RoundSpread.{rounds-few, rounds-unwound}
 use Rattle.theory.proofs.SoundKeys.{Cases, IsCorrection, is-inside, few-growths, sound-key}
 
 -- Theorem: where there is a correction, the rounds end with no odd cluster.
-pub rounds-even : (X : Sheet) → Inside (X .board) → smallestOdd (X .board) (ones (X .syndrome)) ≡ none
+pub rounds-even : (X : Sheet) → Inside (X .board) → Unlit (X .board) (ones (X .syndrome)) → smallestOdd (X .board) (ones (X .syndrome)) ≡ none
     → NoneOdd (X .board) (clusters (X .board) (roundSupports X)) (ones (X .syndrome))
-rounds-even X r = key-even allOdd X r (rounds-feed (X .board) r (ones (X .syndrome)))
+rounds-even X r unlit = key-even allOdd X r unlit (rounds-feed (X .board) r (ones (X .syndrome)))
 
 -- Theorem: of every set that has the syndrome, there are at most two rounds for each kept edge.
-pub rounds-bound : (X : Sheet) → Inside (X .board) → (E : Set) → HasSyndrome (X .board) E (ones (X .syndrome))
+pub rounds-bound : (X : Sheet) → Inside (X .board) → Unlit (X .board) (ones (X .syndrome)) → (E : Set) → HasSyndrome (X .board) E (ones (X .syndrome))
     → rounds X ≤ 2 * keptEdges (X .board) (ones (X .loss)) E
-rounds-bound X r = few-growths allOdd X r (rounds-feed (X .board) r (ones (X .syndrome)))
+rounds-bound X r unlit = few-growths allOdd X r unlit (rounds-feed (X .board) r (ones (X .syndrome)))
 
--- Beyond what is promised: half as many, and demand 3's rule on t + 2s.
+-- Beyond what is promised: half as many where no vertex is open, and demand 3's rule on t + 2s.
 module _ (X : Sheet) (r : Inside (X .board)) (E : Set) (has : HasSyndrome (X .board) E (ones (X .syndrome))) where
-  pub rounds-half : rounds X ≤ keptEdges (X .board) (ones (X .loss)) E
-  rounds-half = rounds-few (X .board) r (ones (X .syndrome)) (ones (X .loss)) E has (key-reached allOdd X)
+  pub rounds-half : Sealed (X .board) → rounds X ≤ keptEdges (X .board) (ones (X .loss)) E
+  rounds-half shut = rounds-few (X .board) r (ones (X .syndrome)) (ones (X .loss)) E has shut (key-reached allOdd X)
 
-  pub rounds-apart : smallestOdd (X .board) (ones (X .syndrome)) ≡ none
+  pub rounds-apart : Unlit (X .board) (ones (X .syndrome)) → smallestOdd (X .board) (ones (X .syndrome)) ≡ none
       → EveryLoopAbove (X .board) (lostEdges (X .board) (ones (X .loss)) + 2 * keptEdges (X .board) (ones (X .loss)) E)
       → winds (X .board) (together E (roundCorrected X)) ≡ false
-  rounds-apart p =
+  rounds-apart unlit p =
       rounds-unwound (X .board) r (ones (X .syndrome)) (ones (X .loss)) E has (roundCorrected X)
-      (corrected-has-syndrome allOdd X r (rounds-feed (X .board) r (ones (X .syndrome))) p) (key-reached allOdd X) (corrected-full allOdd X)
+      (corrected-has-syndrome allOdd X r unlit (rounds-feed (X .board) r (ones (X .syndrome))) p) (key-reached allOdd X) (corrected-full allOdd X)
 
 -- a key is no refusal
 rounds-cases : Cases Refused RoundsKey
@@ -112,10 +113,10 @@ module _
     rounds-sound =
         record {
           key =
-              sound-key allOdd X range feeds Refused RoundsKey rounds-cases (ones correction′) written
-              (λ rounds E. rounds ≤ 2 * keptEdges B (ones (X .loss)) E) (λ p. rounds-bound X range) r result;
+              sound-key allOdd X range (valid .unlit) feeds Refused RoundsKey rounds-cases (ones correction′) written
+              (λ rounds E. rounds ≤ 2 * keptEdges B (ones (X .loss)) E) (λ p. rounds-bound X range (valid .unlit)) r result;
           inside = λ g k q e h p.
               let even = none-odd g k q in
               let grown = d .support-bytes ∙ ap (λ x. roundsOr x (roundSupports X) support) (key even) in
-              ap (λ l. full l e) grown ∙ is-inside allOdd X range feeds (ones correction′) written even .holds e h p;
+              ap (λ l. full l e) grown ∙ is-inside allOdd X range (valid .unlit) feeds (ones correction′) written even .holds e h p;
         }

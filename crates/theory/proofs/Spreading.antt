@@ -16,6 +16,7 @@ use Rattle.model.specs.Winding.{winds, size}
 use Rattle.model.specs.Growth.{start, full, swell}
 use Rattle.model.specs.Demand3.{lostEdges, EveryLoopAbove}
 use Rattle.model.proofs.Xor.{and-left, and-right, and-both}
+use Rattle.theory.proofs.Syndromes.{Sealed}
 use Rattle.theory.proofs.Connected.{Connected, connected-keeps}
 use Rattle.theory.proofs.CrossedLines.{Closed}
 use Rattle.theory.proofs.Supports.{start-at, swell-at}
@@ -145,11 +146,11 @@ spread-books B r T short lost c =
 
 -- A closed set of full edges and of others, which are left, does not wind where every winding loop has more than T edges, and the lost edges,
 -- the growths and the edges left are together no more.
-pub spread-unwound : (B : Board) → Inside B → (lost : Set) {s : List ℕ} {g : ℕ} → Spread B lost s g → (T : ℕ) → EveryLoopAbove B T
+pub spread-unwound : (B : Board) → Inside B → Sealed B → (lost : Set) {s : List ℕ} {g : ℕ} → Spread B lost s g → (T : ℕ) → EveryLoopAbove B T
     → (D left : Set) → Closed B D → ((e : ℕ) → e < edges B → D e ≡ true → full s e ≡ false → left e ≡ true)
     → lostEdges B lost + g + size B left ≤ T → winds B D ≡ false
-spread-unwound B r lost {s} {g} c T above D left closed covers few =
-    potential-unwound B r (i .clustering .potential) D
+spread-unwound B r w lost {s} {g} c T above D left closed covers few =
+    potential-unwound B r w (i .clustering .potential) D
     (record { fits = λ x e h p. settled e h p (full s e) refl .fits x }) closed
   where
     short : ShortWalksUnmarked B T

@@ -4,11 +4,11 @@ use mathlib.Core.Path.{_≡_, refl, sym, ap, ap₂, subst, _∙_}
 use mathlib.Core.Logic.{_≢_}
 use mathlib.Core.Bool.{Bool, true, false, cond}
 use mathlib.Core.List.{List, [], _∷_}
-use mathlib.Core.Option.{none, some, Option·none-ne-some, Option·some-injective}
+use mathlib.Core.Option.{Option, none, some, Option·none-ne-some, Option·some-injective}
 use native.Mathlib.Omega.{arith}
 use borrow.Author.Tests.{eqb-true}
 use lib.Dec.{eqb}
-use Rattle.model.specs.Text.{newline, tab, digitZero, Line, V-line, E-line, S-line, X-line, letterV, letterE, letterS, letterX, letterOf, numbersOf, fieldsOf, bytesOf, partedBy, numbers, lineOf, fromFields, lineFrom}
+use Rattle.model.specs.Text.{newline, tab, digitZero, Line, V-line, E-line, O-line, S-line, X-line, letterV, letterE, letterO, letterS, letterX, letterOf, numbersOf, fieldsOf, bytesOf, partedBy, numbers, lineOf, fromFields, lineFrom}
 use Rattle.theory.proofs.Options.{and-then, passed}
 use Rattle.theory.proofs.DecimalFields.{Without, nowhere, besides, without-append, decimal-without, joined, joined-parted, parted-fields, numbers-read, led-fields}
 
@@ -16,6 +16,7 @@ use Rattle.theory.proofs.DecimalFields.{Without, nowhere, besides, with
 letter-apart : (p : ℕ) (l : Line) → p < digitZero → letterOf l ≢ p
 letter-apart p (V-line n) h e = omega arith
 letter-apart p (E-line a b m) h e = omega arith
+letter-apart p (O-line v) h e = omega arith
 letter-apart p (S-line v) h e = omega arith
 letter-apart p (X-line x) h e = omega arith
 
@@ -33,6 +34,7 @@ line-without l = besides (letter-apart newline l (omega arith)) (fields-without 
 line-of : (l : Line) → lineOf (letterOf l) (numbersOf l) ≡ some l
 line-of (V-line n) = refl
 line-of (E-line a b m) = refl
+line-of (O-line v) = refl
 line-of (S-line v) = refl
 line-of (X-line e) = refl
 
@@ -50,17 +52,20 @@ pub record Made (letter : ℕ) (ns : List ℕ) (l : Line) : Type 0 where
 
 pub made : (letter : ℕ) (ns : List ℕ) (l : Line) → lineOf letter ns ≡ some l → Made letter ns l
 made letter [] l p = absurd (Option·none-ne-some _ p)
-made letter (n ∷ []) l p = go (eqb letter letterV) (eqb letter letterS) (eqb letter letterX) refl refl refl p
+made letter (n ∷ []) l p =
+    by-letter letterV (V-line n) _ refl refl (by-letter letterO (O-line n) _ refl refl (by-letter letterS (S-line n) _ refl refl
+    (by-letter letterX (X-line n) none refl refl (λ q. absurd (Option·none-ne-some _ q))))) p
   where
-    go : (v s x : Bool) → eqb letter letterV ≡ v → eqb letter letterS ≡ s → eqb letter letterX ≡ x
-        → cond v (some (V-line n)) (cond s (some (S-line n)) (cond x (some (X-line n)) none)) ≡ some l
-        → Made letter (n ∷ []) l
-    go true s x e f g q = subst (Made letter (n ∷ [])) (Option·some-injective _ _ q) (record { letter-is = sym (eqb-true letter letterV e); numbers-are = refl })
-    go false true x e f g q =
-        subst (Made letter (n ∷ [])) (Option·some-injective _ _ q) (record { letter-is = sym (eqb-true letter letterS f); numbers-are = refl })
-    go false false true e f g q =
-        subst (Made letter (n ∷ [])) (Option·some-injective _ _ q) (record { letter-is = sym (eqb-true letter letterX g); numbers-are = refl })
-    go false false false e f g q = absurd (Option·none-ne-some _ q)
+    -- the line with the letter c, or what comes of another letter
+    by-letter : (c : ℕ) (k : Line) (o : Option Line) → letterOf k ≡ c → numbersOf k ≡ n ∷ [] → (o ≡ some l → Made letter (n ∷ []) l)
+        → cond (eqb letter c) (some k) o ≡ some l → Made letter (n ∷ []) l
+    by-letter c k o is are other q = go (eqb letter c) refl q
+      where
+        go : (t : Bool) → eqb letter c ≡ t → cond t (some k) o ≡ some l → Made letter (n ∷ []) l
+        go true e r =
+            subst (Made letter (n ∷ [])) (Option·some-injective _ _ r)
+            (record { letter-is = is ∙ sym (eqb-true letter c e); numbers-are = are })
+        go false e r = other r
 made letter (a ∷ b ∷ []) l p = absurd (Option·none-ne-some _ p)
 made letter (a ∷ b ∷ m ∷ []) l p =
     let w = passed (eqb letter letterE) (some (E-line a b m)) p in

@@ -11,23 +11,33 @@ use lib.ListN.{length}
 use lib.Dec.{leb}
 use Rattle.model.specs.declared.refusal.Refusal.{Refusal}
 use Rattle.model.specs.Board.{Sheet, vertexLimit}
-use Rattle.model.specs.Text.{newline, Line, V-line, E-line, S-line, X-line, bytesOf, printed, partedBy, lineFrom, Read, complete, refused, orMalformed, firstLine, begun, edgeMayFollow, syndromeMayFollow, lossMayFollow, step, readOn, readLines, readText}
+use Rattle.model.specs.Text.{newline, Line, V-line, E-line, O-line, S-line, X-line, bytesOf, printed, partedBy, lineFrom, Read, complete, refused, orMalformed, firstLine, begun, edgeMayFollow, openMayFollow, syndromeMayFollow, lossMayFollow, step, readOn, readLines, readText}
 use Rattle.model.proofs.Xor.{and-left, and-right}
 use Rattle.model.proofs.Contradiction.{zero-one}
 use Rattle.theory.proofs.Options.{passed}
 use Rattle.theory.proofs.DecimalFields.{NotEmpty, not-empty, parted-not-empty, parted-first, joined, joined-parted}
 use Rattle.theory.proofs.TextLines.{line-without, line-read, read-line}
 
--- where an edge may follow, so may any syndrome vertex, and where a syndrome vertex may follow, so may any lost edge
-pub edge-then-syndrome : (last : Line) (v : ℕ) → edgeMayFollow last ≡ true → syndromeMayFollow last v ≡ true
-edge-then-syndrome (V-line n) v p = refl
-edge-then-syndrome (E-line a b m) v p = refl
-edge-then-syndrome (S-line u) v p = absurd (false≢true p)
-edge-then-syndrome (X-line e) v p = absurd (false≢true p)
+-- where an edge may follow, so may any open vertex; where an open vertex may follow, so may any syndrome vertex; and where a syndrome
+-- vertex may follow, so may any lost edge
+pub edge-then-open : (last : Line) (v : ℕ) → edgeMayFollow last ≡ true → openMayFollow last v ≡ true
+edge-then-open (V-line n) v p = refl
+edge-then-open (E-line a b m) v p = refl
+edge-then-open (O-line u) v p = absurd (false≢true p)
+edge-then-open (S-line u) v p = absurd (false≢true p)
+edge-then-open (X-line e) v p = absurd (false≢true p)
+
+pub open-then-syndrome : (last : Line) (v u : ℕ) → openMayFollow last v ≡ true → syndromeMayFollow last u ≡ true
+open-then-syndrome (V-line n) v u p = refl
+open-then-syndrome (E-line a b m) v u p = refl
+open-then-syndrome (O-line w) v u p = refl
+open-then-syndrome (S-line w) v u p = absurd (false≢true p)
+open-then-syndrome (X-line e) v u p = absurd (false≢true p)
 
 pub syndrome-then-loss : (last : Line) (v e : ℕ) → syndromeMayFollow last v ≡ true → lossMayFollow last e ≡ true
 syndrome-then-loss (V-line n) v e p = refl
 syndrome-then-loss (E-line a b m) v e p = refl
+syndrome-then-loss (O-line u) v e p = refl
 syndrome-then-loss (S-line u) v e p = refl
 syndrome-then-loss (X-line d) v e p = absurd (false≢true p)
 
@@ -158,6 +168,7 @@ first-vertices (V-line n) m p =
     let high : n ≤ vertexLimit = leb-true n vertexLimit (and-right (leb 1 n) (leb n vertexLimit) (w .test)) in
     record { is = ap V-line e; some-vertex = omega arith; vertex-limit = omega arith }
 first-vertices (E-line a b m) n p = absurd (Option·none-ne-some _ p)
+first-vertices (O-line v) n p = absurd (Option·none-ne-some _ p)
 first-vertices (S-line v) n p = absurd (Option·none-ne-some _ p)
 first-vertices (X-line e) n p = absurd (Option·none-ne-some _ p)
 

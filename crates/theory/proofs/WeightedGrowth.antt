@@ -12,11 +12,12 @@ use lib.Dec.{ltb}
 use Rattle.model.specs.Sums.{Set}
 use Rattle.model.specs.Board.{Board, Inside}
 use Rattle.model.specs.Components.{label, labels, within}
-use Rattle.model.specs.Growth.{clusters, odd, boundary, better, choiceUpTo, choice, chosen, weighted}
+use Rattle.model.specs.Growth.{clusters, oddlyLit, odd, boundary, better, choiceUpTo, choice, chosen, weighted}
 use Rattle.model.proofs.Contradiction.{zero-one}
 use Rattle.model.proofs.Xor.{and-left, and-right}
 use Rattle.model.proofs.SumLaws.{below-suc}
 use Rattle.theory.proofs.OddMembers.{odd-found}
+use Rattle.theory.proofs.OddParts.{odd-lit}
 use Rattle.theory.proofs.Components.{part-own}
 use Rattle.theory.proofs.GrowthRun.{OddPart, NoneOdd, Feeds}
 
@@ -42,13 +43,16 @@ choice-fair B s l S (suc k) = go (choiceUpTo B s l S k) (choice-fair B s l S k) 
     go none f false q = rw q (λ a h. below-suc k a h (f a) (λ e. rw e q))
     go (some c) f t q = taken c _ refl f
 
--- an odd cluster is named by its label
-pub odd-named : (B : Board) (F S : Set) → Inside B → (a : ℕ) → OddPart B (labels B F) S a → label (labels B F) a ≡ a
-unfolding odd
-odd-named B F S r a o =
-    let x = odd-found (B .vertices) (λ v. S v && within (labels B F) a v) (o .is-odd) in
+-- a cluster with an odd number of syndrome vertices, an odd one among them, is named by its label
+pub lit-named : (B : Board) (F S : Set) → Inside B → (a : ℕ) → oddlyLit B (labels B F) S a ≡ true → label (labels B F) a ≡ a
+unfolding oddlyLit
+lit-named B F S r a o =
+    let x = odd-found (B .vertices) (λ v. S v && within (labels B F) a v) o in
     let q : label (labels B F) (x .at) ≡ a = eqb-true _ _ (and-right (S (x .at)) _ (x .holds)) in
     ap (label (labels B F)) (sym q) ∙ part-own B F r (x .at) (x .less) ∙ q
+
+pub odd-named : (B : Board) (F S : Set) → Inside B → (a : ℕ) → OddPart B (labels B F) S a → label (labels B F) a ≡ a
+odd-named B F S r a o = lit-named B F S r a (odd-lit B (labels B F) S a (o .is-odd))
 
 -- what is chosen is odd
 pub choice-odd : (B : Board) (s l : List ℕ) (S : Set) (a : ℕ) → choice B s l S ≡ some a → OddPart B l S a

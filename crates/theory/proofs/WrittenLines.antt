@@ -1,9 +1,9 @@
--- The lines of a valid sheet lead to it: its edges come one by one, then its syndrome vertices, then its lost edges.
+-- The lines of a valid sheet lead to it: its edges come one by one, then its open vertices, its syndrome vertices and its lost edges.
 -- Assumes nothing.
 use Prim.Native.Nat.{ℕ, zero, suc, _+_, _*_, _≤_, _<_}
 use mathlib.Core.Path.{_≡_, refl, sym, ap, subst, _∙_}
 use mathlib.Core.Logic.{_≢_}
-use mathlib.Core.Bool.{Bool, true, false}
+use mathlib.Core.Bool.{Bool, true, false, true≢false}
 use mathlib.Core.List.{List, [], _∷_, _++_, map, map-append, append-nil, append-assoc}
 use mathlib.Core.Option.{some}
 use native.Mathlib.Nat.{le-refl}
@@ -13,17 +13,21 @@ use borrow.Author.Tests.{lt-ltb, eqb-true, eqb-false}
 use lib.ListN.{length, getD, take, set, replicate, replicate-append-replicate}
 use lib.Seq.{take-suc, take-all, take-length, length-take-le}
 use Rattle.model.specs.Sums.{values, ones, members}
-use Rattle.model.specs.Board.{Sheet, ValidBytes, ValidSheet, edges, firstEnd, secondEnd, mark}
-use Rattle.model.specs.Text.{Line, V-line, S-line, X-line, edgeLine, linesOf, begun, edgeMayFollow, withEdge, syndromeMayFollow, lossMayFollow, step}
+use Rattle.model.specs.Board.{boardOf, withoutOpen, Sheet, sheetOf, ValidBytes, ValidSheet, edges, firstEnd, secondEnd, mark, isOpen}
+use Rattle.model.specs.Text.{Line, V-line, O-line, S-line, X-line, edgeLine, linesOf, begun, edgeMayFollow, withEdge, openMayFollow, syndromeMayFollow, lossMayFollow, step}
+use Rattle.model.proofs.Xor.{not-true-false}
 use Rattle.model.proofs.ListLaws.{values-last}
 use Rattle.theory.proofs.MarkedBytes.{upTo, upTo-none, upTo-all, upTo-unmarked, upTo-marked}
 use Rattle.theory.proofs.AddedEdges.{Addable, range-in, fit-lines}
-use Rattle.theory.proofs.TextReading.{edge-then-syndrome, syndrome-then-loss, Leads, there, onward, leads-append}
+use Rattle.theory.proofs.TextReading.{edge-then-open, open-then-syndrome, syndrome-then-loss, Leads, there, onward, leads-append}
 
--- The lines of each kind, for the first edges, vertices, edges of a sheet
+-- The lines of each kind, for the first edges, vertices, vertices, edges of a sheet
 
 abbrev edgeLines : Sheet → ℕ → List Line
 edgeLines X k = values k (edgeLine (X .board))
+
+abbrev openLines : Sheet → ℕ → List Line
+openLines X v = map O-line (members v (isOpen (X .board)))
 
 abbrev syndromeLines : Sheet → ℕ → List Line
 syndromeLines X v = map S-line (members v (ones (X .syndrome)))
@@ -73,15 +77,11 @@ module _ (Ok : ℕ → Line → Type 0) (lines : ℕ → List Line) (sheet : ℕ
 
 -- The edges
 
--- the first k edges of X, with no syndrome and no loss
+-- the first k edges of X, with no open vertex, no syndrome and no loss
 abbrev withEdges : Sheet → ℕ → Sheet
 withEdges X k =
     let B = X .board in
-    record {
-      board = record { vertices = B .vertices; ends = take (2 * k) (B .ends); marks = take k (B .marks) };
-      syndrome = replicate (B .vertices) 0;
-      loss = replicate k 0;
-    }
+    sheetOf (withoutOpen (B .vertices) (take (2 * k) (B .ends)) (take k (B .marks))) (replicate (B .vertices) 0) (replicate k 0)
 
 -- where an edge may follow
 abbrev EdgeNext : ℕ → Line → Type 0
@@ -124,7 +124,8 @@ edge-turn X w k h =
 
 module _ (Ok : ℕ → Line → Type 0) (f : ℕ → Line) (F : List ℕ → Sheet) (n : ℕ) (l : List ℕ) (valid : ValidBytes n l)
     (here : (k : ℕ) → Ok (suc k) (f k)) (later : (k : ℕ) (last : Line) → Ok k last → Ok (suc k) last)
-    (steps : (k : ℕ) (last : Line) (bytes : List ℕ) → k < n → Ok k last → step (F bytes) last (f k) ≡ some (F (set bytes k 1))) where
+    (steps : (k : ℕ) (last : Line) (bytes : List ℕ) → k < n → ones l k ≡ true → Ok k last
+    → step (F bytes) last (f k) ≡ some (F (set bytes k 1))) where
   mark-turn : (k : ℕ) → k < n → Turn Ok (λ i. map f (members i (ones l))) (λ i. F (upTo i n l)) k
   unfolding members
   mark-turn k h = go (ones l k) refl
@@ -133,7 +134,7 @@ module _ (Ok : ℕ → Line → Type 0) (f : ℕ → Line) (F : List ℕ → She
       go true e =
           adds (f k) (rw e (map-append f (members k (ones l)) (k ∷ []))) (here k)
           (λ last ok.
-          steps k last (upTo k n l) h ok ∙ ap (λ s. some (F s)) (sym (upTo-marked k n l (valid .count) h (eqb-true _ 1 e))))
+          steps k last (upTo k n l) h e ok ∙ ap (λ s. some (F s)) (sym (upTo-marked k n l (valid .count) h (eqb-true _ 1 e))))
       go false e =
           passes (rw e (ap (map f) (append-nil (members k (ones l)))))
           (ap F (upTo-unmarked k n l (valid .count) h (unmarked (getD l k 0) (valid .each k h) (eqb-false (getD l k 0) 1 e))))
@@ -142,19 +143,31 @@ module _ (Ok : ℕ → Line → Type 0) (f : ℕ → Line) (F : List ℕ → She
           unmarked : (x : ℕ) → x ≤ 1 → x ≢ 1 → x ≡ 0
           unmarked x p q = omega arith
 
--- where a syndrome vertex from v on may follow; where a lost edge from e on may
+-- where an open vertex from v on may follow; where a syndrome vertex from v on may; where a lost edge from e on may
+abbrev OpenNext : ℕ → Line → Type 0
+OpenNext v last = (u : ℕ) → v ≤ u → openMayFollow last u ≡ true
+
 abbrev SyndromeNext : ℕ → Line → Type 0
 SyndromeNext v last = (u : ℕ) → v ≤ u → syndromeMayFollow last u ≡ true
 
 abbrev LossNext : ℕ → Line → Type 0
 LossNext e last = (d : ℕ) → e ≤ d → lossMayFollow last d ≡ true
 
--- the sheet with these syndrome bytes and no loss; with all its syndrome and these loss bytes
+-- the sheet with these open bytes, no syndrome and no loss; with all its open vertices, these syndrome bytes and no loss; with all but its
+-- loss, and these loss bytes
+abbrev openBy : Sheet → List ℕ → Sheet
+openBy X bytes =
+    let B = X .board in
+    sheetOf (boardOf (B .vertices) (B .ends) (B .marks) bytes) (replicate (B .vertices) 0) (replicate (edges B) 0)
+
 abbrev litBy : Sheet → List ℕ → Sheet
-litBy X bytes = record { board = X .board; syndrome = bytes; loss = replicate (edges (X .board)) 0 }
+litBy X bytes = sheetOf (X .board) bytes (replicate (edges (X .board)) 0)
 
 abbrev lostBy : Sheet → List ℕ → Sheet
-lostBy X bytes = record { board = X .board; syndrome = X .syndrome; loss = bytes }
+lostBy X bytes = sheetOf (X .board) (X .syndrome) bytes
+
+abbrev withOpens : Sheet → ℕ → Sheet
+withOpens X v = openBy X (upTo v (X .board .vertices) (X .board .opened))
 
 abbrev withLit : Sheet → ℕ → Sheet
 withLit X v = litBy X (upTo v (X .board .vertices) (X .syndrome))
@@ -162,13 +175,25 @@ withLit X v = litBy X (upTo v (X .board .vertices) (X .syndrome))
 abbrev withLost : Sheet → ℕ → Sheet
 withLost X e = lostBy X (upTo e (edges (X .board)) (X .loss))
 
+open-turn : (X : Sheet) → ValidSheet X → (v : ℕ) → v < X .board .vertices → Turn OpenNext (openLines X) (withOpens X) v
+unfolding step
+open-turn X w =
+    mark-turn OpenNext O-line (openBy X) (X .board .vertices) (X .board .opened) (w .board .open-bytes)
+    (λ v u h. lt-ltb v u h)
+    (λ v last ok u h. ok u (omega arith))
+    (λ v last bytes h e ok. rw (ok v (le-refl _), lt-ltb v (X .board .vertices) h))
+
+-- a vertex of the syndrome is not open
+lit-shut : (X : Sheet) → ValidSheet X → (v : ℕ) → v < X .board .vertices → ones (X .syndrome) v ≡ true → isOpen (X .board) v ≡ false
+lit-shut X w v h e = not-true-false (isOpen (X .board) v) (λ o. true≢false (sym e ∙ w .unlit v h o))
+
 syndrome-turn : (X : Sheet) → ValidSheet X → (v : ℕ) → v < X .board .vertices → Turn SyndromeNext (syndromeLines X) (withLit X) v
 unfolding step
 syndrome-turn X w =
     mark-turn SyndromeNext S-line (litBy X) (X .board .vertices) (X .syndrome) (w .syndrome)
     (λ v u h. lt-ltb v u h)
     (λ v last ok u h. ok u (omega arith))
-    (λ v last bytes h ok. rw (ok v (le-refl _), lt-ltb v (X .board .vertices) h))
+    (λ v last bytes h e ok. rw (ok v (le-refl _), lt-ltb v (X .board .vertices) h, lit-shut X w v h e))
 
 loss-turn : (X : Sheet) → ValidSheet X → (e : ℕ) → e < edges (X .board) → Turn LossNext (lossLines X) (withLost X) e
 unfolding step
@@ -176,15 +201,20 @@ loss-turn X w =
     mark-turn LossNext X-line (lostBy X) (edges (X .board)) (X .loss) (w .loss)
     (λ e d h. lt-ltb e d h)
     (λ e last ok d h. ok d (omega arith))
-    (λ e last bytes h ok. rw (ok e (le-refl _), lt-ltb e (edges (X .board)) h))
+    (λ e last bytes h lost ok. rw (ok e (le-refl _), lt-ltb e (edges (X .board)) h))
 
--- The three phases, each of which begins where the one before ends
+-- The four phases, each of which begins where the one before ends
 
-edges-end : (X : Sheet) → ValidSheet X → withEdges X (edges (X .board)) ≡ withLit X 0
+edges-end : (X : Sheet) → ValidSheet X → withEdges X (edges (X .board)) ≡ withOpens X 0
 edges-end X w =
     let B = X .board in
     let long = w .board .inside .two-ends in
-    rw (take-all (2 * edges B) (B .ends) (omega arith), take-length (B .marks), upTo-none (B .vertices) (X .syndrome))
+    rw (take-all (2 * edges B) (B .ends) (omega arith), take-length (B .marks), upTo-none (B .vertices) (B .opened))
+
+opens-end : (X : Sheet) → ValidSheet X → withOpens X (X .board .vertices) ≡ withLit X 0
+opens-end X w =
+    let n = X .board .vertices in
+    rw (upTo-all n (X .board .opened) (w .board .open-bytes .count), upTo-none n (X .syndrome))
 
 syndrome-ends : (X : Sheet) → ValidSheet X → withLit X (X .board .vertices) ≡ withLost X 0
 syndrome-ends X w = rw (upTo-all (X .board .vertices) (X .syndrome) (w .syndrome .count), upTo-none (edges (X .board)) (X .loss))
@@ -199,11 +229,18 @@ module _ (X : Sheet) (w : ValidSheet X) where
       phase EdgeNext (edgeLines X) (withEdges X) (V-line (X .board .vertices)) refl refl
       (edges (X .board)) (edge-turn X w) (edges (X .board)) (le-refl _)
 
-  syndrome-phase : (last : Line) → edgeMayFollow last ≡ true
+  open-phase : (last : Line) → edgeMayFollow last ≡ true → Phase OpenNext (openLines X) (withOpens X) last (X .board .vertices)
+  unfolding members
+  open-phase last may =
+      phase OpenNext (openLines X) (withOpens X) last refl (λ u h. edge-then-open last u may)
+      (X .board .vertices) (open-turn X w) (X .board .vertices) (le-refl _)
+
+  syndrome-phase : (last : Line) → OpenNext (X .board .vertices) last
       → Phase SyndromeNext (syndromeLines X) (withLit X) last (X .board .vertices)
   unfolding members
   syndrome-phase last may =
-      phase SyndromeNext (syndromeLines X) (withLit X) last refl (λ u h. edge-then-syndrome last u may)
+      phase SyndromeNext (syndromeLines X) (withLit X) last refl
+      (λ u h. open-then-syndrome last (X .board .vertices) u (may (X .board .vertices) (le-refl _)))
       (X .board .vertices) (syndrome-turn X w) (X .board .vertices) (le-refl _)
 
   loss-phase : (last : Line) → SyndromeNext (X .board .vertices) last → Phase LossNext (lossLines X) (withLost X) last (edges (X .board))
@@ -224,13 +261,21 @@ pub written : (X : Sheet) → ValidSheet X → Written X
 unfolding linesOf
 written X w =
     let es = edge-phase X w in
-    let ss = syndrome-phase X w (es .final) (es .ok) in
+    let os = open-phase X w (es .final) (es .ok) in
+    let ss = syndrome-phase X w (os .final) (os .ok) in
     let xs = loss-phase X w (ss .final) (ss .ok) in
     record {
-      lines = edgeLines X (edges (X .board)) ++ syndromeLines X (X .board .vertices) ++ lossLines X (edges (X .board));
+      lines =
+          edgeLines X (edges (X .board))
+          ++ openLines X (X .board .vertices)
+          ++ syndromeLines X (X .board .vertices)
+          ++ lossLines X (edges (X .board));
       final = xs .final;
       lead =
-          leads-append (leads-append (arrive (edges-end X w) (es .lead)) (arrive (syndrome-ends X w) (ss .lead)))
+          leads-append
+          (leads-append
+          (leads-append (arrive (edges-end X w) (es .lead)) (arrive (opens-end X w) (os .lead)))
+          (arrive (syndrome-ends X w) (ss .lead)))
           (arrive (loss-ends X w) (xs .lead));
       all-lines = refl;
     }

@@ -6,6 +6,7 @@ use native.Mathlib.Omega.{arith}
 use lib.Dec.{eqb}
 use Rattle.model.specs.Board.{Valid, edges}
 use Rattle.model.specs.Torus.{leastSide, row, column, rightOf, below, torusTo, torusMark, torus}
+use Rattle.model.proofs.OpenBytes.{zeros-valid}
 use Rattle.torus.specs.Sides.{SideWithin}
 use Rattle.torus.proofs.Numbering.{right-less, below-less, square-limit}
 use Rattle.torus.proofs.TorusRows.{edge-count, end-count, first-is, second-is, mark-is}
@@ -45,6 +46,7 @@ torus-valid L w =
         second-in-range = λ e h. rw (second-is L e (within e h)) (to-less L e (w .least) (within e h));
       };
       mark-in-range = λ e h. rw (mark-is L e (within e h)) (mark-less L e (w .least) (within e h));
+      open-bytes = zeros-valid (L * L);
     }
   where
     within : (e : ℕ) → e < edges (torus L) → e < 2 * (L * L)

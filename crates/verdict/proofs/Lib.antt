@@ -1,5 +1,6 @@
 mod ByteFlips
 mod CrossingCounts
+mod Clearing
 mod Judged
 mod LoadedBytes
 mod SoundVerdicts

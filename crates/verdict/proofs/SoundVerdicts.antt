@@ -7,7 +7,7 @@ use mathlib.Core.Option.{Option, none, some}
 use Rattle.model.specs.declared.answers.Verdict.{Verdict}
 use Rattle.model.specs.declared.answers.Verdict.the-variants.{Refused}
 use Rattle.model.specs.Sums.{Set, ones}
-use Rattle.model.specs.Board.{Board, Sheet, Inside}
+use Rattle.model.specs.Board.{Board, Sheet, ValidSheet, Inside}
 use Rattle.model.specs.Syndrome.{HasSyndrome}
 use Rattle.model.specs.Winding.{winds, together}
 use Rattle.model.specs.Decoding.{smallestOdd, corrected}
@@ -60,8 +60,11 @@ module _ (X : Sheet) (handed : List ℕ) (r : Verdict) (j : Judges X handed r) w
       S : Set
       S = ones (X .syndrome)
 
+      valid : ValidSheet X
+      valid = verdict-passes X handed passed .sheet
+
       within : Inside B
-      within = verdict-passes X handed passed .sheet .board .inside
+      within = valid .board .inside
 
       result : r ≡ judgedOrNone X handed
       result = j .result ∙ passed-verdict X handed passed
@@ -71,7 +74,7 @@ module _ (X : Sheet) (handed : List ℕ) (r : Verdict) (j : Judges X handed r) w
           sound-none B S (ones (X .loss)) (corrected X) (ones handed) v r (result ∙ none-verdict X handed v p)
           (no-correction-unmet B within S v p)
       go none p =
-          let has = corrected-has-syndrome weighted X within (weighted-feeds B S) p in
+          let has = corrected-has-syndrome weighted X within (valid .unlit) (weighted-feeds B S) p in
           sound-judged B S (ones (X .loss)) (corrected X) (ones handed) r (result ∙ judged-verdict X handed p) has
           (λ hands above.
           not-winding B within S (ones (X .loss)) (ones handed) (corrected X) hands has (key-reached weighted X) (corrected-full weighted X) above)

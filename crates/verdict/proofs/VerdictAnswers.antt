@@ -97,9 +97,11 @@ module _ (X : Sheet) (handed support correction support′ correction′ : List 
     judgeable =
         record {
           inside = lent .sheet .board .inside;
+          open-bytes = lent .sheet .board .open-bytes .count;
           syndrome-bytes = lent .sheet .syndrome;
           handed-bytes = lent .handed-bytes;
           correction-bytes = rw key-written (bytes-valid (edges (X .board)) (corrected X));
+          unlit = lent .sheet .unlit;
         }
 
     pub key-judges : (r : Verdict) → r ≡ judged (X .board) (ones (X .syndrome)) (ones correction′) (ones handed) → Judges X handed r

@@ -1,7 +1,7 @@
 -- What the verdict keeps for each vertex while it goes through the edges. No part of what a reader must believe. Assumes nothing.
 use Prim.Native.Nat.{ℕ, _+_, _*_, _<_, _≤_}
 use mathlib.Core.Path.{_≡_}
-use mathlib.Core.Bool.{Bool, _&&_}
+use mathlib.Core.Bool.{Bool, cond, _&&_}
 use mathlib.Core.List.{List}
 use lib.ListN.{length, getD}
 use lib.Dec.{eqb}
@@ -26,3 +26,14 @@ meetsAt ends e v = eqb (getD ends (2 * e) 0) v ⊕ eqb (getD ends (2 * e + 1) 0)
 -- the vertices that meet an odd number of H's edges below k
 abbrev pub metBy : List ℕ → Set → ℕ → Set
 metBy ends H k v = oddUpTo k (λ e. H e && meetsAt ends e v)
+
+-- the first k bytes are among those of an array for all vertices
+pub record Clearable (k : ℕ) (l : List ℕ) : Type 0 where
+  pub limit : k ≤ vertexLimit
+  pub long : length l ≡ vertexLimit
+
+-- from l to l′ the byte of each open vertex below k becomes 0
+pub record Cleared (k : ℕ) (opened l l′ : List ℕ) : Type 0 where
+  pub long : length l′ ≡ vertexLimit
+  pub at : (v : ℕ) → v < k → getD l′ v 0 ≡ cond (ones opened v) 0 (getD l v 0)
+  pub rest : (v : ℕ) → k ≤ v → getD l′ v 0 ≡ getD l v 0

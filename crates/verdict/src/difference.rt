@@ -11,7 +11,7 @@ ghost use lib.ListN.{length};
 ghost use Rattle.model.specs.Board.{EndsWithin};
 ghost use Rattle.model.specs.Lent.{before, after};
 ghost use Rattle.model.specs.Sums.{ones};
-ghost use Rattle.verdict.specs.VertexParities.{Bits, Flipped, meetsAt, metBy};
+ghost use Rattle.verdict.specs.VertexParities.{Bits, Flipped, meetsAt, metBy, Clearable, Cleared};
 
 // The byte of v is flipped.
 fn flip(vertices: usize, parity: &mut [u8; VERTICES], v: Vertex)
@@ -46,5 +46,19 @@ pub(crate) fn count_edges(vertices: usize, ends: &[u16], handed: &[u8], parity: 
     while e < handed.len() {
         count_edge(vertices, ends, handed, Edge(e as u16), parity);
         e += 1;
+    }
+}
+
+// An open vertex has no syndrome: its byte becomes 0.
+pub(crate) fn clear_open(opened: &[u8], parity: &mut [u8; VERTICES])
+    requires { ⌜ Clearable (length (now opened)) (now parity) ⌝ }
+    ensures { λ _. ⌜ Cleared (length (before opened)) (before opened) (before parity) (after parity) ⌝ }
+{
+    let mut v = 0;
+    while v < opened.len() {
+        if opened[v] == 1 {
+            parity[v] = 0;
+        }
+        v += 1;
     }
 }

@@ -1,5 +1,6 @@
 // How a handed-in set compares with the correction.
 use crate::crossings::crossings;
+use crate::difference::clear_open;
 use crate::difference::count_edges;
 use board::bytes::vertex_above;
 use board::copy::copy_bytes;
@@ -13,22 +14,24 @@ ghost use Rattle.model.specs.Sums.{ones};
 ghost use Rattle.model.specs.Verdict.{judged};
 ghost use Rattle.verdict.specs.Judging.{Judgeable};
 
-// Off with the smallest vertex at which the syndromes differ; otherwise same or wound, by the marks of the two sets together.
+// Off with the smallest vertex, not open, at which the syndromes differ; otherwise same or wound, by the marks of the two sets together.
 pub(crate) fn judge(
     vertices: usize,
     ends: &[u16],
     marks: &[u8],
+    opened: &[u8],
     syndrome: &[u8],
     handed: &[u8],
     correction: &[u8],
 ) -> Verdict
-    requires { ⌜ Judgeable (boardOf vertices (now ends) (now marks)) (now syndrome) (now handed) (now correction) ⌝ }
-    ensures { λ r. ⌜ r ≡ judged (boardLent vertices ends marks)
+    requires { ⌜ Judgeable (boardOf vertices (now ends) (now marks) (now opened)) (now syndrome) (now handed) (now correction) ⌝ }
+    ensures { λ r. ⌜ r ≡ judged (boardLent vertices ends marks opened)
         (ones (before syndrome)) (ones (before correction)) (ones (before handed)) ⌝ }
 {
     let mut parity = [0u8; VERTICES];
     copy_bytes(syndrome, vertices, &mut parity);
     count_edges(vertices, ends, handed, &mut parity);
+    clear_open(opened, &mut parity);
     if let FoundVertex::At(v) = vertex_above(&parity[..vertices], 0) {
         return Verdict::Off(v);
     }

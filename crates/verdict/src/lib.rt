@@ -20,21 +20,31 @@ fn compare(
     vertices: usize,
     ends: &[u16],
     marks: &[u8],
+    opened: &[u8],
     syndrome: &[u8],
     loss: &[u8],
     handed: &[u8],
     support: &mut [u8],
     correction: &mut [u8],
 ) -> Verdict
-    requires { ⌜ Comparable (sheetOf (boardOf vertices (now ends) (now marks)) (now syndrome) (now loss))
+    requires { ⌜ Comparable (sheetOf (boardOf vertices (now ends) (now marks) (now opened)) (now syndrome) (now loss))
         (now handed) (now support) (now correction) ⌝ }
-    ensures { λ r. ⌜ Judges (sheetLent vertices ends marks syndrome loss) (before handed) r ⌝ }
+    ensures { λ r. ⌜ Judges (sheetLent vertices ends marks opened syndrome loss) (before handed) r ⌝ }
 {
-    let decoded = decode(vertices, ends, marks, syndrome, loss, support, correction);
+    let decoded = decode(
+        vertices,
+        ends,
+        marks,
+        opened,
+        syndrome,
+        loss,
+        support,
+        correction,
+    );
     if let Decoded::Refused(refusal) = decoded {
         return Verdict::Refused(refusal);
     }
-    judge(vertices, ends, marks, syndrome, handed, correction)
+    judge(vertices, ends, marks, opened, syndrome, handed, correction)
 }
 
 // Off, same or wound, or the refusal that decoding gave or 9: a refusal comes before the others.
@@ -42,14 +52,23 @@ pub fn verdict(
     vertices: usize,
     ends: &[u16],
     marks: &[u8],
+    opened: &[u8],
     syndrome: &[u8],
     loss: &[u8],
     handed: &[u8],
 ) -> Verdict
-    ensures answer { λ r. ⌜ Judges (sheetLent vertices ends marks syndrome loss) (before handed) r ⌝ }
-    ensures sound { λ r. ⌜ JudgesSoundly (sheetLent vertices ends marks syndrome loss) (before handed) r ⌝ }
+    ensures answer { λ r. ⌜ Judges (sheetLent vertices ends marks opened syndrome loss) (before handed) r ⌝ }
+    ensures sound { λ r. ⌜ JudgesSoundly (sheetLent vertices ends marks opened syndrome loss) (before handed) r ⌝ }
 {
-    if let Check::Failed(refusal) = check_verdict(vertices, ends, marks, syndrome, loss, handed) {
+    if let Check::Failed(refusal) = check_verdict(
+        vertices,
+        ends,
+        marks,
+        opened,
+        syndrome,
+        loss,
+        handed,
+    ) {
         return Verdict::Refused(refusal);
     }
     let edges = marks.len();
@@ -59,6 +78,7 @@ pub fn verdict(
         vertices,
         ends,
         marks,
+        opened,
         syndrome,
         loss,
         handed,

@@ -7,8 +7,9 @@
 use std::hint::black_box;
 use std::time::{Duration, Instant};
 
+use reference::planar::planar;
 use reference::torus::torus;
-use reference::{Random, RoundsKey, Sheet, decode_rounds, text};
+use reference::{Board, Random, RoundsKey, Sheet, decode_rounds, text};
 use table_bench::plain::Plain;
 
 const SEED: u64 = 301;
@@ -25,8 +26,12 @@ fn main() {
     println!("side  flips  growths      table      plain  plain/table     rounds");
     for side in [8, 16, 32] {
         for rate in RATES {
-            decode_row(side, rate);
+            decode_row(side, rate, torus(side));
         }
+    }
+    println!("on the largest planar board");
+    for rate in RATES {
+        decode_row(31, rate, planar(31));
     }
     println!();
     println!(
@@ -41,10 +46,9 @@ fn main() {
     }
 }
 
-/// Sheets of the torus of a side with so many flips for each 2,048 edges.
-fn sheets(side: usize, rate: usize, count: usize) -> Vec<Sheet> {
+/// Sheets of the board of a side with so many flips for each 2,048 edges.
+fn sheets(side: usize, rate: usize, board: &Board, count: usize) -> Vec<Sheet> {
     let mut random = Random::new(SEED + (side * 1000 + rate) as u64);
-    let board = torus(side);
     let flips = rate * board.edges() / 2048;
     let mut sheet = || {
         let error = random.set_of_size(board.edges(), flips);
@@ -55,8 +59,8 @@ fn sheets(side: usize, rate: usize, count: usize) -> Vec<Sheet> {
 }
 
 fn lent(sheet: &Sheet) -> table::Sheet<'_> {
-    let board = &sheet.board;
-    let board = table::Board { vertices: board.vertices, ends: &board.ends, marks: &board.marks };
+    let Board { vertices, ends, marks, open } = &sheet.board;
+    let board = table::Board { vertices: *vertices, ends, marks, open };
     table::Sheet { board, syndrome: &sheet.syndrome, loss: &sheet.loss }
 }
 
@@ -76,8 +80,8 @@ fn best(calls: usize, mut run: impl FnMut()) -> f64 {
     each((0..RUNS).map(|_| time(&mut run)).min(), calls)
 }
 
-fn decode_row(side: usize, rate: usize) {
-    let sheets = sheets(side, rate, SHEETS);
+fn decode_row(side: usize, rate: usize, board: Board) {
+    let sheets = sheets(side, rate, &board, SHEETS);
     let mut plain = Plain::default();
     let growths = same_keys(&sheets, &mut plain);
     let [table_time, plain_time, rounds_time] = decode_times(&sheets, &mut plain);
@@ -150,7 +154,7 @@ fn same_rounds(sheet: &Sheet) {
 
 /// Times of decoding, the distance, reading and writing on the torus of a side.
 fn side_row(side: usize, half: Option<[f64; 4]>) -> [f64; 4] {
-    let sheets = sheets(side, 100, 100);
+    let sheets = sheets(side, 100, &torus(side), 100);
     let edges = sheets[0].board.edges();
     let times = [
         decode_time(&sheets, edges),
@@ -192,11 +196,13 @@ fn distance_time(sheet: &Sheet, edges: usize) -> f64 {
 fn read_time(sheet: &Sheet) -> f64 {
     let text = text::write(sheet);
     let (mut ends, mut marks) = (vec![0; 2 * table::EDGES], vec![0; table::EDGES]);
-    let (mut syndrome, mut loss) = (vec![0; table::VERTICES], vec![0; table::EDGES]);
+    let (mut open, mut syndrome) = (vec![0; table::VERTICES], vec![0; table::VERTICES]);
+    let mut loss = vec![0; table::EDGES];
     let calls = 100;
     best(calls, || {
         for _ in 0..calls {
-            let answer = table::read(&text, &mut ends, &mut marks, &mut syndrome, &mut loss);
+            let answer =
+                table::read(&text, &mut ends, &mut marks, &mut open, &mut syndrome, &mut loss);
             assert!(black_box(answer).is_ok());
         }
     })

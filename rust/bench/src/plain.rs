@@ -1,5 +1,6 @@
 //! The program to compare with: document 01's steps as one would write them for speed, but with no
-//! boundary sizes kept. Each choice makes one pass over all edges and one over all vertices.
+//! boundary sizes kept. Each choice makes one pass over all edges and one over all vertices. Open
+//! vertices are those of document 02, K5.
 //!
 //! It makes the same tests as the library and fills the same buffers, and it allocates nothing after
 //! the first sheet of a size.
@@ -19,6 +20,7 @@ pub struct Plain {
     /// Of each cluster, at its root.
     boundary: Vec<u16>,
     odd: Vec<bool>,
+    open: Vec<bool>,
     smallest: Vec<u16>,
     newly_full: Vec<usize>,
     /// Of each vertex in the forest: how many edges are left, and the exclusive or of their numbers.
@@ -47,11 +49,13 @@ impl Plain {
             parts.join(ends[0], ends[1]);
         }
         refill(&mut self.odd, sheet.board.vertices, false);
-        for (vertex, &lit) in sheet.syndrome.iter().enumerate() {
-            let root = parts.root(vertex as u16);
-            self.odd[usize::from(root)] ^= lit == 1;
+        refill(&mut self.open, sheet.board.vertices, false);
+        for (vertex, (&lit, &open)) in sheet.syndrome.iter().zip(&sheet.board.open).enumerate() {
+            let root = usize::from(parts.root(vertex as u16));
+            self.odd[root] ^= lit == 1;
+            self.open[root] |= open == 1;
         }
-        self.odd.contains(&true)
+        self.odd.iter().zip(&self.open).any(|(&odd, &open)| odd && !open)
     }
 
     fn grow(&mut self, sheet: &Sheet, support: &mut [u8]) -> usize {
@@ -87,6 +91,7 @@ impl Plain {
         refill(&mut self.exposed, vertices, false);
         refill(&mut self.boundary, vertices, 0);
         refill(&mut self.odd, vertices, false);
+        refill(&mut self.open, vertices, false);
         refill(&mut self.smallest, vertices, u16::MAX);
         for (ends, &support) in sheet.board.ends.chunks_exact(2).zip(support) {
             if support < 2 {
@@ -100,10 +105,11 @@ impl Plain {
             let root = usize::from(root);
             self.boundary[root] += u16::from(self.exposed[vertex]);
             self.odd[root] ^= sheet.syndrome[vertex] == 1;
+            self.open[root] |= sheet.board.open[vertex] == 1;
             self.smallest[root] = self.smallest[root].min(vertex as u16);
         }
         (0..vertices)
-            .filter(|&root| self.odd[root])
+            .filter(|&root| self.odd[root] && !self.open[root])
             .min_by_key(|&root| (self.boundary[root], self.smallest[root]))
             .map(|root| root as u16)
     }
@@ -124,6 +130,7 @@ impl Plain {
             }
         }
         self.lit.clone_from(&sheet.syndrome);
+        self.add_open_ends(sheet);
         let mut edges = 0;
         for vertex in 0..sheet.board.vertices {
             // From each leaf inwards, as long as what is left after it is a leaf again.
@@ -145,9 +152,21 @@ impl Plain {
         }
         edges
     }
+
+    /// Adds to the lit vertices the smallest open one of each cluster in which an odd number is lit. The
+    /// last choice left, at each root, whether it is odd, and the root as every vertex's parent.
+    fn add_open_ends(&mut self, sheet: &Sheet) {
+        for vertex in 0..sheet.board.vertices {
+            let root = usize::from(self.clusters.parent[vertex]);
+            if sheet.board.open[vertex] == 1 && self.odd[root] {
+                self.odd[root] = false;
+                self.lit[vertex] = 1;
+            }
+        }
+    }
 }
 
-/// The tests 1 to 4 and 6 to 8.
+/// The tests 1 to 4, 6 to 8, 16 and 17.
 fn keeps_the_rules(sheet: &Sheet, support: &[u8], correction: &[u8]) -> bool {
     let Sheet { board, syndrome, loss } = sheet;
     let edges = board.ends.len() / 2;
@@ -155,10 +174,11 @@ fn keeps_the_rules(sheet: &Sheet, support: &[u8], correction: &[u8]) -> bool {
         && board.ends.len().is_multiple_of(2)
         && edges <= 4096
         && [board.marks.len(), loss.len(), support.len(), correction.len()] == [edges; 4]
-        && syndrome.len() == board.vertices
+        && [syndrome.len(), board.open.len()] == [board.vertices; 2]
         && board.ends.iter().all(|&end| usize::from(end) < board.vertices)
         && board.marks.iter().all(|&mark| mark <= 3)
-        && syndrome.iter().chain(loss).all(|&byte| byte <= 1)
+        && syndrome.iter().chain(loss).chain(&board.open).all(|&byte| byte <= 1)
+        && syndrome.iter().zip(&board.open).all(|(&lit, &open)| lit & open == 0)
 }
 
 fn refill<T: Copy>(buffer: &mut Vec<T>, count: usize, value: T) {

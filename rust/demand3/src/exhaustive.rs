@@ -31,6 +31,14 @@ pub struct Tally {
     pub one_short_unlost: usize,
     /// Of the sets that are one short, those with a loop edge.
     pub one_short_loop: usize,
+    /// Of the covered sets, those that end at an open vertex.
+    pub covered_open: usize,
+    /// Of these, sets with which the correction is closed over open vertices alone: the two end at
+    /// different ones.
+    pub covered_over_open: usize,
+    /// Of the sets that are one short, those that are closed with the correction over open vertices
+    /// alone.
+    pub one_short_open: usize,
 }
 
 impl Tally {
@@ -40,6 +48,13 @@ impl Tally {
         let seen = [self.unmet, self.growths_reached, self.covered, self.one_short_unlost];
         let loops = [self.covered_lost_loop, self.covered_kept_loop, self.one_short_loop];
         seen.iter().chain(&loops).all(|&count| count > 0)
+    }
+
+    /// Whether it also had something to say of sets that run off the board, and of loops from one open
+    /// vertex to another.
+    pub fn has_seen_open(&self) -> bool {
+        let open = [self.covered_open, self.covered_over_open, self.one_short_open];
+        self.has_seen_all() && open.iter().all(|&count| count > 0)
     }
 }
 
@@ -82,6 +97,7 @@ fn hold_set(
     let covered = s > 0 && all.distance.is_some() && all.loops_above(reach);
     let one_short = winds && reach > 0 && all.loops_above(reach - 1);
     let loops = set & all.loops;
+    let over_open = all.ends_open(set ^ correction);
     tally.growths_reached += usize::from(s > 0 && growths == 2 * s);
     tally.covered += usize::from(covered);
     tally.covered_lost_loop += usize::from(covered && loops & all.lost != 0);
@@ -89,5 +105,8 @@ fn hold_set(
     tally.one_short += usize::from(one_short);
     tally.one_short_unlost += usize::from(one_short && all.lost == 0);
     tally.one_short_loop += usize::from(one_short && loops != 0);
+    tally.covered_open += usize::from(covered && all.ends_open(set));
+    tally.covered_over_open += usize::from(covered && over_open);
+    tally.one_short_open += usize::from(one_short && over_open);
     Ok(())
 }

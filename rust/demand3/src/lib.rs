@@ -6,6 +6,8 @@
 //! t + 2s edges, E and the correction together do not wind.
 //!
 //! What growing in rounds promises of every set E is held against it in the same way ([`rounds`]).
+//!
+//! Boards may have open vertices; syndromes and loops are then meant as document 02, K5, widens them.
 
 pub mod boards;
 pub mod exhaustive;
@@ -13,7 +15,7 @@ pub mod rounds;
 pub mod sets;
 pub mod wrong;
 
-pub use boards::{boards, every_board};
+pub use boards::{boards, every_board, every_open_board, open_boards};
 pub use exhaustive::{Tally, hold};
 pub use rounds::{RoundsTally, hold_rounds};
 pub use sets::{Part, Violation};

@@ -4,9 +4,11 @@
 //! correction has it and lies inside the full edges, and rounds are at most 2s. Nothing is promised
 //! of winding.
 //!
-//! Two things are counted that nobody promises, and neither is ever seen: rounds above s, and a set
-//! that winds with the correction though every winding loop has more than t + 2s edges. Why is told
-//! in docs/PROOF.md, "Growing in rounds".
+//! Two things are counted that nobody promises, and neither is ever seen on a board without open
+//! vertices: rounds above s, and a set that winds with the correction though every winding loop has
+//! more than t + 2s edges. Why is told in docs/PROOF.md, "Growing in rounds". With open vertices rounds
+//! go up to 2s, as one odd cluster may be alone, and gives an edge of the set one half-edge in a round;
+//! the other is not seen there either.
 
 use reference::board::{Board, Sheet};
 use reference::{Refusal, RoundsKey};
@@ -28,8 +30,11 @@ pub struct RoundsTally {
     pub s_reached: usize,
     /// Of these, sets with a loop edge that is lost.
     pub s_reached_lost_loop: usize,
-    /// Sets whose rounds are above s: not ruled out by the promise, but none is.
+    /// Sets whose rounds are above s: not ruled out by the promise, but none is where no vertex is
+    /// open.
     pub above_s: usize,
+    /// Sets whose rounds are exactly 2s, s not being 0.
+    pub twice_s: usize,
     /// Sets with s above 0 on a board where some loop winds and every such loop has more than
     /// t + 2s edges.
     pub covered: usize,
@@ -37,6 +42,8 @@ pub struct RoundsTally {
     pub covered_wound: usize,
     /// Sets that wind with the correction though every winding loop has more than t + 2s - 1 edges.
     pub one_short: usize,
+    /// Of the covered sets, those that end at an open vertex.
+    pub covered_open: usize,
 }
 
 impl RoundsTally {
@@ -44,6 +51,12 @@ impl RoundsTally {
     pub fn has_seen_all(&self) -> bool {
         let seen = [self.unmet, self.s_reached, self.s_reached_lost_loop];
         seen.iter().chain([&self.covered, &self.one_short]).all(|&count| count > 0)
+    }
+
+    /// Whether it also had something to say of sets that run off the board, and its bound was seen to
+    /// be tight.
+    pub fn has_seen_open(&self) -> bool {
+        self.has_seen_all() && self.covered_open > 0 && self.twice_s > 0
     }
 }
 
@@ -89,8 +102,10 @@ fn hold_set(all: &Sets, key: &RoundsKey, set: u32, tally: &mut RoundsTally) -> R
     tally.s_reached += usize::from(s_reached);
     tally.s_reached_lost_loop += usize::from(s_reached && set & all.loops & all.lost != 0);
     tally.above_s += usize::from(key.rounds > s);
+    tally.twice_s += usize::from(s > 0 && key.rounds == 2 * s);
     tally.covered += usize::from(covered);
     tally.covered_wound += usize::from(covered && winds);
+    tally.covered_open += usize::from(covered && all.ends_open(set));
     tally.one_short += usize::from(winds && reach > 0 && all.loops_above(reach - 1));
     Ok(())
 }

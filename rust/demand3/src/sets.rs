@@ -38,7 +38,8 @@ pub struct Violation<K> {
 /// The part that is broken, and the set at fault if any.
 pub(crate) type Broken = (Part, Option<u32>);
 
-/// Holds a statement against a decoder's answer to each syndrome of a board with these lost edges.
+/// Holds a statement against a decoder's answer to each syndrome of a board with these lost edges. No
+/// open vertex is in a syndrome.
 pub(crate) fn hold_each<K>(
     board: &Board,
     loss: &[u8],
@@ -46,7 +47,8 @@ pub(crate) fn hold_each<K>(
     mut statement: impl FnMut(&Sets, u32, &Result<K, Refusal>) -> Result<(), Broken>,
 ) -> Result<(), Box<Violation<K>>> {
     let all = Sets::of(board, loss);
-    for syndrome in 0..1 << board.vertices {
+    let open = bits(&board.open);
+    for syndrome in (0..1 << board.vertices).filter(|syndrome| syndrome & open == 0) {
         let sheet = Sheet {
             board: board.clone(),
             syndrome: bytes(syndrome, board.vertices),
@@ -63,11 +65,14 @@ pub(crate) fn hold_each<K>(
 
 /// Every set of edges of a board, as bits: edge e at bit e, vertex v at bit v.
 pub(crate) struct Sets {
+    /// The open vertices.
+    pub open: u32,
     /// The lost edges.
     pub lost: u32,
     /// The loop edges.
     pub loops: u32,
-    /// The syndrome and the exclusive or of the marks of each set, at the set's bits.
+    /// The odd ends, open ones among them, and the exclusive or of the marks of each set, at the set's
+    /// bits.
     sets: Vec<(u32, u8)>,
     /// The sets that have each syndrome, at the syndrome's bits.
     by_syndrome: Vec<Vec<u32>>,
@@ -77,24 +82,35 @@ pub(crate) struct Sets {
 
 impl Sets {
     fn of(board: &Board, loss: &[u8]) -> Sets {
+        let open = bits(&board.open);
         let mut sets = vec![(0, 0)];
         for edge in 0..board.edges() {
             let [a, b] = board.ends_of(edge);
             let without = sets.len();
             sets.extend_from_within(..);
-            for (syndrome, marks) in &mut sets[without..] {
-                *syndrome ^= (1 << a) ^ (1 << b);
+            for (ends, marks) in &mut sets[without..] {
+                *ends ^= (1 << a) ^ (1 << b);
                 *marks ^= board.marks[edge];
             }
         }
         let mut by_syndrome = vec![Vec::new(); 1 << board.vertices];
-        for (set, &(syndrome, _)) in sets.iter().enumerate() {
-            by_syndrome[syndrome as usize].push(set as u32);
+        for (set, &(ends, _)) in sets.iter().enumerate() {
+            by_syndrome[(ends & !open) as usize].push(set as u32);
         }
         let winding = by_syndrome[0].iter().filter(|&&set| sets[set as usize].1 != 0);
         let distance = winding.map(|&set| members(set)).min();
         let is_loop: Vec<u8> = (0..board.edges()).map(|edge| board.is_loop(edge).into()).collect();
-        Sets { lost: bits(loss), loops: bits(&is_loop), sets, by_syndrome, distance }
+        Sets { open, lost: bits(loss), loops: bits(&is_loop), sets, by_syndrome, distance }
+    }
+
+    /// The vertices, not open, that an odd number of a set's edges touch.
+    fn syndrome(&self, set: u32) -> u32 {
+        self.sets[set as usize].0 & !self.open
+    }
+
+    /// Whether an odd number of a set's edges touches some open vertex.
+    pub fn ends_open(&self, set: u32) -> bool {
+        self.sets[set as usize].0 & self.open != 0
     }
 
     /// The sets that have the syndrome: 10 exactly where there are none, and otherwise a correction
@@ -106,7 +122,7 @@ impl Sets {
     ) -> Result<&[u32], Broken> {
         let having = &self.by_syndrome[syndrome as usize];
         match (correction, having.first()) {
-            (Ok(correction), Some(_)) if self.sets[correction as usize].0 != syndrome => {
+            (Ok(correction), Some(_)) if self.syndrome(correction) != syndrome => {
                 Err((Part::WrongSyndrome, None))
             }
             (Ok(_), None) => Err((Part::AnsweredThoughUnmet, None)),
@@ -133,7 +149,8 @@ impl Sets {
         self.distance.is_none_or(|fewest| fewest > bound)
     }
 
-    /// Whether two sets with one syndrome wind together: they are closed together.
+    /// Whether two sets with one syndrome wind together: they are closed together, over open vertices
+    /// too.
     pub fn winds(&self, set: u32, other: u32) -> bool {
         self.sets[(set ^ other) as usize].1 != 0
     }

@@ -1,9 +1,10 @@
 //! Decoders that demand 3 shuts out, and decoders in rounds that their promise shuts out: holding it
 //! against each must find a violation. One keeps the promise, and shows in what is counted beside it.
 
-use reference::board::{Sheet, members};
+use reference::board::{Board, Sheet, members};
 use reference::components::components;
 use reference::decoding::smallest_odd;
+use reference::open_sides::wanted_ends;
 use reference::refusal::{NO_CORRECTION, refuse};
 use reference::{Key, Refusal, RoundsKey, decode, decode_rounds, peeling};
 
@@ -22,6 +23,13 @@ pub const ALL: [(&str, Decoder, Part); 6] = [
     ("the loop edges in the correction", corrects_loops, Part::Winds),
 ];
 
+/// Each decoder that is wrong on boards with open vertices, likewise.
+pub const OPEN: [(&str, Decoder, Part); 3] = [
+    ("10 for odd parts that hold an open vertex", refuses_open_parts, Part::RefusedThoughMet),
+    ("clusters with an open vertex grow", grows_open_clusters, Part::TooManyGrowths),
+    ("no open vertex is added to the odd ends", adds_no_open_end, Part::WrongSyndrome),
+];
+
 /// A decoder in rounds, by what it does.
 pub type RoundsDecoder = fn(&Sheet) -> Result<RoundsKey, Refusal>;
 
@@ -32,6 +40,12 @@ pub const ROUNDS: [(&str, RoundsDecoder, Part); 5] = [
     ("10 before looking", refuses_rounds_at_once, Part::RefusedThoughMet),
     ("one round more than made", counts_a_round_more, Part::TooManyRounds),
     ("a count of half-edges for the rounds", counts_half_edges, Part::TooManyRounds),
+];
+
+/// Each decoder in rounds that is wrong on boards with open vertices, likewise.
+pub const OPEN_ROUNDS: [(&str, RoundsDecoder, Part); 2] = [
+    ("10 for odd parts that hold an open vertex", refuses_open_rounds, Part::RefusedThoughMet),
+    ("clusters with an open vertex grow", grows_open_clusters_in_rounds, Part::TooManyRounds),
 ];
 
 fn peels_the_board(sheet: &Sheet) -> Result<Key, Refusal> {
@@ -129,4 +143,90 @@ pub fn gains_one_half(sheet: &Sheet) -> Result<RoundsKey, Refusal> {
     let forest = peeling::forest(board, |edge| support[edge] == 2);
     let correction = peeling::peel(board, &forest, &sheet.syndrome).expect("no odd cluster");
     Ok(RoundsKey { rounds, support, correction })
+}
+
+/// Number 10 where some part of the board with all vertices closed is odd.
+fn refuse_open_parts(sheet: &Sheet) -> Result<(), Refusal> {
+    let closed = Board { open: vec![0; sheet.board.vertices], ..sheet.board.clone() };
+    match smallest_odd(&closed, &sheet.syndrome) {
+        Some(vertex) => refuse(NO_CORRECTION, vertex),
+        None => Ok(()),
+    }
+}
+
+fn refuses_open_parts(sheet: &Sheet) -> Result<Key, Refusal> {
+    refuse_open_parts(sheet)?;
+    decode(sheet)
+}
+
+fn refuses_open_rounds(sheet: &Sheet) -> Result<RoundsKey, Refusal> {
+    refuse_open_parts(sheet)?;
+    decode_rounds(sheet)
+}
+
+/// The correction without the ends that were added: what it has of each cluster that has one is left
+/// out.
+fn adds_no_open_end(sheet: &Sheet) -> Result<Key, Refusal> {
+    let mut key = decode(sheet)?;
+    let board = &sheet.board;
+    let cluster = components(board, |edge| key.support[edge] == 2);
+    let ends = board.odd_ends(&key.correction);
+    for end in members(&ends).filter(|&end| board.open[end] == 1) {
+        for edge in (0..board.edges()).filter(|&e| cluster[board.ends_of(e)[0]] == cluster[end]) {
+            key.correction[edge] = 0;
+        }
+    }
+    Ok(key)
+}
+
+fn grows_open_clusters(sheet: &Sheet) -> Result<Key, Refusal> {
+    decode(sheet)?;
+    let (growths, support) = grown_past_open(sheet, false);
+    let correction = peeled(sheet, &support);
+    Ok(Key { growths, support, correction })
+}
+
+fn grows_open_clusters_in_rounds(sheet: &Sheet) -> Result<RoundsKey, Refusal> {
+    decode_rounds(sheet)?;
+    let (rounds, support) = grown_past_open(sheet, true);
+    let correction = peeled(sheet, &support);
+    Ok(RoundsKey { rounds, support, correction })
+}
+
+/// Growth in which a cluster is odd by its syndrome alone, whatever vertices it holds, until those that
+/// are odd have no edge left to grow: the first of them by itself, or all together.
+fn grown_past_open(sheet: &Sheet, together: bool) -> (usize, Vec<u8>) {
+    let board = &sheet.board;
+    let mut support: Vec<u8> = sheet.loss.iter().map(|lost| 2 * lost).collect();
+    for steps in 0.. {
+        let cluster = components(board, |edge| support[edge] == 2);
+        let mut odd = vec![false; board.vertices];
+        for vertex in members(&sheet.syndrome) {
+            odd[cluster[vertex]] ^= true;
+        }
+        let gains = |edge: usize, name: usize| {
+            let ends = board.ends_of(edge);
+            support[edge] < 2 && ends.iter().any(|&end| cluster[end] == name)
+        };
+        let mut grow: Vec<usize> = (0..board.vertices)
+            .filter(|&name| odd[name] && (0..board.edges()).any(|edge| gains(edge, name)))
+            .collect();
+        grow.truncate(if together { board.vertices } else { 1 });
+        if grow.is_empty() {
+            return (steps, support);
+        }
+        for (edge, support) in support.iter_mut().enumerate() {
+            let ends = board.ends_of(edge).into_iter().filter(|&end| grow.contains(&cluster[end]));
+            *support = 2.min(*support + ends.count() as u8);
+        }
+    }
+    unreachable!("no support is above 2")
+}
+
+/// The correction in the forest of the full edges.
+fn peeled(sheet: &Sheet, support: &[u8]) -> Vec<u8> {
+    let board = &sheet.board;
+    let full = |edge: usize| support[edge] == 2;
+    let wanted = wanted_ends(board, &sheet.syndrome, &components(board, full));
+    peeling::peel(board, &peeling::forest(board, full), &wanted).expect("no odd part")
 }

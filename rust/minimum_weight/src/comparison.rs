@@ -1,8 +1,7 @@
-//! A decoder compared with this one on tori: no correction has fewer edges than the fewest, and
-//! neither winds with the error where its own bound says so.
+//! A decoder compared with this one on tori and planar boards: no correction has fewer edges than the
+//! fewest, and neither winds with the error where its own bound says so.
 
-use reference::board::{Sheet, members, size, together};
-use reference::torus::torus;
+use reference::board::{Board, Sheet, members, size, together};
 use reference::{Key, Random, Refusal};
 
 use crate::{LIT_LIMIT, minimum_weight};
@@ -20,14 +19,15 @@ pub struct Comparison {
     pub wound: usize,
 }
 
-/// Decodes so many random errors on the torus of a side, and panics where a decoder is at fault.
+/// Decodes so many random errors on the torus or the planar board of a side, which is its distance, and
+/// panics where a decoder is at fault.
 pub fn compare(
     random: &mut Random,
+    board: &Board,
     side: usize,
     sheets: usize,
     decoder: impl Fn(&Sheet) -> Result<Key, Refusal>,
 ) -> Comparison {
-    let board = torus(side);
     let mut comparison = Comparison::default();
     while comparison.sheets < sheets {
         let lost = random.below(side);

@@ -4,20 +4,33 @@
 //! matching of the syndrome vertices with the smallest sum of distances. The matching is exact: it
 //! goes through all sets of syndrome vertices, of which there must be few. No shortest walk passes a
 //! loop edge, so the set has none.
+//!
+//! The open vertices of a board are made one, at which a set may end: it is matched too where the parts
+//! that it joins have an odd number of syndrome vertices.
 
 pub mod comparison;
 
 use std::collections::VecDeque;
 
 use reference::board::{Board, members};
+use reference::components::components;
+use reference::open_sides::joined;
 
 /// The largest number of syndrome vertices.
 pub const LIT_LIMIT: usize = 16;
 
 /// A set of fewest edges with this syndrome, a byte for each edge; none if no set has it.
 pub fn minimum_weight(board: &Board, syndrome: &[u8]) -> Option<Vec<u8>> {
-    let lit: Vec<usize> = members(syndrome).collect();
+    let mut lit: Vec<usize> = members(syndrome).collect();
     assert!(lit.len() <= LIT_LIMIT, "too many syndrome vertices");
+    let outside = members(&board.open).next();
+    let board = &joined(board);
+    if let Some(outside) = outside {
+        let part = components(board, |_| true);
+        if lit.iter().filter(|&&vertex| part[vertex] == part[outside]).count() % 2 == 1 {
+            lit.push(outside);
+        }
+    }
     let walks: Vec<Walks> = lit.iter().map(|&start| Walks::from(board, start)).collect();
     let length = |a: usize, b: usize| walks[a].length[lit[b]];
     let mut set = vec![0; board.edges()];

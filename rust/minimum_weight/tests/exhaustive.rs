@@ -3,7 +3,7 @@
 use minimum_weight::{LIT_LIMIT, minimum_weight};
 use reference::Random;
 use reference::board::{Board, members, size};
-use reference::generators::{Kind, sheet};
+use reference::generators::{Kind, open_board, sheet};
 
 /// The fewest edges of a set with this syndrome, by going through all sets.
 fn fewest(board: &Board, syndrome: &[u8]) -> Option<usize> {
@@ -36,4 +36,26 @@ fn no_set_has_fewer_edges() {
     }
     assert!(met.iter().all(|&count| count > 100), "{met:?}");
     assert!(with_loops > 100, "{with_loops}");
+}
+
+/// On boards with open vertices, where a set may run off the board.
+#[test]
+fn no_set_has_fewer_edges_with_open_vertices() {
+    let mut random = Random::new(15);
+    let (mut met, mut open_ended) = ([0; 2], 0);
+    while met.iter().sum::<usize>() < 3000 {
+        let board = open_board(&mut random);
+        let sheet = sheet(&mut random, board);
+        if sheet.board.edges() > 10 || size(&sheet.syndrome) > LIT_LIMIT {
+            continue;
+        }
+        let found = minimum_weight(&sheet.board, &sheet.syndrome);
+        met[usize::from(found.is_some())] += 1;
+        assert_eq!(found.as_deref().map(size), fewest(&sheet.board, &sheet.syndrome), "{sheet:?}");
+        if let Some(set) = found {
+            assert_eq!(sheet.board.syndrome(&set), sheet.syndrome);
+            open_ended += usize::from(sheet.board.odd_ends(&set) != sheet.syndrome);
+        }
+    }
+    assert!(met.iter().all(|&count| count > 50) && open_ended > 300, "{met:?}, {open_ended}");
 }

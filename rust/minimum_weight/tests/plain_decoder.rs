@@ -1,13 +1,25 @@
-//! The plain decoder compared with the fewest edges on small tori.
+//! The plain decoder compared with the fewest edges on small tori and planar boards.
 
 use minimum_weight::comparison::compare;
+use reference::planar::planar;
+use reference::torus::torus;
 use reference::{Random, decode};
 
 #[test]
 fn plain_decoder_on_small_tori() {
     let mut random = Random::new(12);
     for side in 2..=8 {
-        let seen = compare(&mut random, side, 400, decode);
+        let seen = compare(&mut random, &torus(side), side, 400, decode);
+        assert!(seen.within > 0 && seen.wound > 0, "side {side}: {seen:?}");
+        assert!(side < 4 || seen.larger > 0, "side {side}: {seen:?}");
+    }
+}
+
+#[test]
+fn plain_decoder_on_small_planar_boards() {
+    let mut random = Random::new(14);
+    for side in 2..=8 {
+        let seen = compare(&mut random, &planar(side), side, 400, decode);
         assert!(seen.within > 0 && seen.wound > 0, "side {side}: {seen:?}");
         assert!(side < 4 || seen.larger > 0, "side {side}: {seen:?}");
     }
@@ -17,6 +29,6 @@ fn plain_decoder_on_small_tori() {
 /// has a mark, it winds.
 #[test]
 fn torus_of_side_1() {
-    let seen = compare(&mut Random::new(13), 1, 100, decode);
+    let seen = compare(&mut Random::new(13), &torus(1), 1, 100, decode);
     assert_eq!((seen.larger, seen.within, seen.wound), (0, 0, seen.sheets), "{seen:?}");
 }

@@ -2,9 +2,10 @@
 
 use reference::board::{Board, Sheet};
 use reference::generators::{
-    Kind, any_syndrome, crowd, crowd_with_loops, late_smallest, path, ring, sheet, sheet_of_bytes,
-    star,
+    Kind, any_syndrome, crowd, crowd_with_loops, late_smallest, open_board, opened, path, ring,
+    sheet, sheet_of_bytes, star,
 };
+use reference::planar::planar;
 use reference::torus::torus;
 use reference::{Random, damage, text};
 
@@ -31,6 +32,7 @@ pub fn all() -> Vec<Texts> {
         Texts { what: "random boards", list: random_boards(&mut random), piece: WHOLE },
         Texts { what: "odd parts", list: odd_parts(&mut random), piece: WHOLE },
         Texts { what: "loop edges", list: loop_edges(&mut random), piece: WHOLE },
+        Texts { what: "open sides", list: open_sides(&mut random), piece: WHOLE },
         Texts { what: "each byte damaged", list: damage::each_byte(&small), piece: WHOLE },
         Texts { what: "each line damaged", list: damage::each_line(&small), piece: WHOLE },
         Texts { what: "damaged anywhere", list: damaged(&mut random), piece: WHOLE },
@@ -40,7 +42,7 @@ pub fn all() -> Vec<Texts> {
 /// A small sheet with every kind of line and a loop edge, which has a correction.
 fn small() -> Sheet {
     let board = Board::new(11, &[(0, 10, 0), (10, 2, 3), (2, 2, 1), (2, 10, 0)]);
-    Sheet::new(board, &[0, 10], &[1, 3])
+    Sheet::new(board.with_open(&[2, 9]), &[0, 10], &[1, 3])
 }
 
 fn marked_sheets() -> Vec<Vec<u8>> {
@@ -105,6 +107,22 @@ fn by_hand() -> Vec<Vec<u8>> {
         "V\t4\nS\t1\nS\t0\n",
         "V\t4\nS\t1\nS\t1\n",
         "V\t4\nV\t4\n",
+        "V\t4\nO\t0\n",
+        "V\t4\nO\t3\nS\t3\n",
+        "V\t4\nO\t4\n",
+        "V\t4\nO\t1\nO\t1\n",
+        "V\t4\nO\t1\nO\t0\n",
+        "V\t4\nO\t0\nO\t1\nO\t2\nO\t3\n",
+        "V\t4\nO\t00\n",
+        "V\t4\nO\t0\t1\n",
+        "V\t4\nO\n",
+        "V\t4\nO\t0",
+        "V\t4\nE\t0\t1\t1\nO\t1\nS\t0\n",
+        "V\t4\nO\t1\nE\t0\t1\t1\nS\t0\n",
+        "V\t4\nE\t0\t1\t1\nS\t0\nO\t1\n",
+        "V\t4\nE\t0\t1\t1\nX\t0\nO\t1\n",
+        "V\t4\nE\t0\t1\t1\nO\t0\nO\t1\nS\t1\n",
+        "O\t0\nV\t4\n",
     ];
     texts.iter().map(|text| text.as_bytes().to_vec()).collect()
 }
@@ -181,7 +199,37 @@ fn loop_edges(random: &mut Random) -> Vec<Vec<u8>> {
     texts
 }
 
+/// Planar boards, and random boards with few, many or only open vertices, some of which have an odd
+/// part without one; all are texts.
+fn open_sides(random: &mut Random) -> Vec<Vec<u8>> {
+    let mut sheets = vec![
+        Sheet::new(planar(3), &[6], &[]),
+        Sheet::new(planar(3), &[1, 5, 10], &[4]),
+        Sheet::new(path(4).with_open(&[0]), &[2], &[]),
+        Sheet::new(path(4).with_open(&[0, 3]), &[], &[]),
+        Sheet::new(Board::new(4, &[(0, 1, 1), (2, 3, 0)]).with_open(&[0, 1]), &[3], &[]),
+        Sheet::new(Board::new(1024, &[]).with_open(&(0..1024).collect::<Vec<_>>()), &[], &[]),
+    ];
+    for board in [2, 5, 12, 31].map(planar) {
+        let syndrome = board.syndrome(&random.set(board.edges(), 100));
+        let loss = random.set(board.edges(), 20);
+        sheets.push(Sheet { board, syndrome, loss });
+    }
+    for _ in 0..400 {
+        let board = open_board(random);
+        sheets.push(sheet(random, board));
+    }
+    for _ in 0..100 {
+        let parts = late_smallest(random);
+        let board = opened(random, parts);
+        sheets.push(any_syndrome(random, board));
+    }
+    let texts: Vec<_> = sheets.iter().map(text::write).collect();
+    assert!(texts.iter().zip(&sheets).all(|(text, sheet)| text::read(text).as_ref() == Ok(sheet)));
+    texts
+}
+
 fn damaged(random: &mut Random) -> Vec<Vec<u8>> {
-    let texts = random_boards(random);
+    let texts = [random_boards(random), open_sides(random)].concat();
     texts.iter().step_by(3).map(|text| damage::anywhere(random, text)).collect()
 }

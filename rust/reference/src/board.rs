@@ -1,4 +1,4 @@
-//! Document 01, "Board and loops".
+//! Document 01, "Board and loops", and what document 02, K5, adds: vertices may be open.
 
 /// The largest vertex count of a board.
 pub const VERTEX_LIMIT: usize = 1024;
@@ -6,12 +6,14 @@ pub const VERTEX_LIMIT: usize = 1024;
 /// The largest edge count of a board.
 pub const EDGE_LIMIT: usize = 4096;
 
-/// A graph as it is lent: two ends and a mark for each edge. Nothing says that it keeps the rules.
+/// A graph as it is lent: two ends and a mark for each edge, and for each vertex a byte that says
+/// whether it is open. Nothing says that it keeps the rules.
 #[derive(Clone, Debug, PartialEq, Eq)]
 pub struct Board {
     pub vertices: usize,
     pub ends: Vec<u16>,
     pub marks: Vec<u8>,
+    pub open: Vec<u8>,
 }
 
 /// A board with its syndrome, a byte for each vertex, and its loss, a byte for each edge.
@@ -23,13 +25,19 @@ pub struct Sheet {
 }
 
 impl Board {
-    /// The board with these edges, each given by its two ends and its mark.
+    /// The board with these edges, each given by its two ends and its mark, and no open vertex.
     pub fn new(vertices: usize, edges: &[(u16, u16, u8)]) -> Board {
         Board {
             vertices,
             ends: edges.iter().flat_map(|&(a, b, _)| [a, b]).collect(),
             marks: edges.iter().map(|&(_, _, mark)| mark).collect(),
+            open: vec![0; vertices],
         }
+    }
+
+    /// The board with these vertices open, and no others.
+    pub fn with_open(self, open: &[usize]) -> Board {
+        Board { open: set_of(self.vertices, open), ..self }
     }
 
     /// The number of edges.
@@ -48,16 +56,26 @@ impl Board {
         a == b
     }
 
-    /// The syndrome of an edge set: the vertices touching an odd number of its edges. A loop edge
-    /// touches its vertex with both ends, so it adds nothing.
-    pub fn syndrome(&self, set: &[u8]) -> Vec<u8> {
-        let mut syndrome = vec![0; self.vertices];
+    /// The odd ends of an edge set: the vertices, open or not, touching an odd number of its edges. A
+    /// loop edge touches its vertex with both ends, so it adds nothing.
+    pub fn odd_ends(&self, set: &[u8]) -> Vec<u8> {
+        let mut odd = vec![0; self.vertices];
         for edge in members(set) {
             for end in self.ends_of(edge) {
-                syndrome[end] ^= 1;
+                odd[end] ^= 1;
             }
         }
-        syndrome
+        odd
+    }
+
+    /// The syndrome of an edge set: its odd ends without the open ones, which have no syndrome.
+    pub fn syndrome(&self, set: &[u8]) -> Vec<u8> {
+        self.dark_where_open(self.odd_ends(set))
+    }
+
+    /// A set of vertices without the open ones.
+    pub fn dark_where_open(&self, set: Vec<u8>) -> Vec<u8> {
+        set.iter().zip(&self.open).map(|(&lit, &open)| if open == 1 { 0 } else { lit }).collect()
     }
 
     /// The exclusive or of a set's marks.
@@ -65,7 +83,7 @@ impl Board {
         members(set).fold(0, |sum, edge| sum ^ self.marks[edge])
     }
 
-    /// An edge set is closed if its syndrome is empty.
+    /// An edge set is closed if its syndrome is empty: evenness is asked at no open vertex.
     pub fn is_closed(&self, set: &[u8]) -> bool {
         size(&self.syndrome(set)) == 0
     }

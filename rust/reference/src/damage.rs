@@ -4,7 +4,7 @@ use crate::random::Random;
 
 /// What damage puts into a text: bytes that mean something there, some that look alike, and the
 /// ends of the range.
-pub const BYTES: [u8; 24] = *b"0123456789\t\n\r VESX-+vx\0\xff";
+pub const BYTES: [u8; 25] = *b"0123456789\t\n\r VEOSX-+vx\0\xff";
 
 /// The text with each byte in turn changed, preceded by another, doubled, dropped, or made the first
 /// that is missing.

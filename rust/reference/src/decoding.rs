@@ -3,6 +3,7 @@
 use crate::board::{Board, Sheet, size};
 use crate::components::components;
 use crate::growth::{self, FULL, Grown};
+use crate::open_sides::{odd_components, wanted_ends};
 use crate::peeling;
 use crate::refusal::{self, NO_CORRECTION, Refusal, Test, refuse};
 
@@ -51,17 +52,17 @@ pub(crate) fn every_part_even(sheet: &Sheet) -> Test {
 
 /// The correction in the forest of the full edges, once growth has ended.
 pub(crate) fn peeled(sheet: &Sheet, support: &[u8]) -> Vec<u8> {
-    let forest = peeling::forest(&sheet.board, |edge| support[edge] == FULL);
-    peeling::peel(&sheet.board, &forest, &sheet.syndrome)
+    let board = &sheet.board;
+    let full = |edge: usize| support[edge] == FULL;
+    let wanted = wanted_ends(board, &sheet.syndrome, &components(board, full));
+    peeling::peel(board, &peeling::forest(board, full), &wanted)
         .expect("no cluster is odd, so the forest has the correction")
 }
 
-/// Document 02, K2: the smallest vertex of all connected parts of the board that hold an odd number
-/// of syndrome vertices.
+/// Document 02, K2 and K5: the smallest vertex of all connected parts of the board that hold an odd
+/// number of syndrome vertices and no open vertex.
 pub fn smallest_odd(board: &Board, syndrome: &[u8]) -> Option<usize> {
     let part = components(board, |_| true);
-    let lit_beside = |vertex: usize| {
-        (0..board.vertices).filter(|&v| part[v] == part[vertex] && syndrome[v] == 1).count()
-    };
-    (0..board.vertices).find(|&vertex| lit_beside(vertex) % 2 == 1)
+    // A part is named by its smallest vertex.
+    odd_components(board, syndrome, &part).iter().position(|&odd| odd)
 }

@@ -1,8 +1,10 @@
-//! Document 01, "Distance and torus": the fewest edges in a winding loop, found in two ways.
+//! Document 01, "Distance and torus": the fewest edges in a winding loop, found in two ways. Loops are
+//! meant as document 02, K5, widens them.
 
 use std::collections::VecDeque;
 
 use crate::board::Board;
+use crate::open_sides::joined;
 use crate::refusal::{self, Refusal};
 
 /// The distance, or none without a winding loop, or a refusal; the buffer lent to show a loop has
@@ -36,7 +38,10 @@ pub fn by_search(board: &Board) -> Option<usize> {
 /// its vertices: the cycle is the exclusive or, over its edges, of the walks out to the edge's first
 /// end, along it and back, none of which is longer than the cycle, and one of which has a mark as the
 /// cycle has one. What that walk passes an odd number of times winds, so it isn't shorter either.
+///
+/// All this is of the board whose open vertices are made one, on which the same sets wind.
 pub fn by_trees(board: &Board) -> Option<usize> {
+    let board = &joined(board);
     (0..board.vertices).filter_map(|start| through(board, &shortest_walks(board, start))).min()
 }
 

@@ -1,6 +1,7 @@
 //! Boards and sheets that decoders are tried on.
 
 use crate::board::{Board, Sheet};
+use crate::planar::planar;
 use crate::random::Random;
 use crate::text;
 use crate::torus::torus;
@@ -216,7 +217,11 @@ fn renumbered(random: &mut Random, board: &Board) -> Board {
         let mark = board.marks[edge];
         edges.push(if random.chance(500) { (a, b, mark) } else { (b, a, mark) });
     }
-    Board::new(board.vertices, &edges)
+    let mut open = vec![0; board.vertices];
+    for (vertex, &byte) in board.open.iter().enumerate() {
+        open[name[vertex]] = byte;
+    }
+    Board { open, ..Board::new(board.vertices, &edges) }
 }
 
 /// The numbers below `count` in a random order.
@@ -228,16 +233,45 @@ fn order(random: &mut Random, count: usize) -> Vec<usize> {
     order
 }
 
-/// The board with random lost edges and any syndrome at all.
+/// The board with random open vertices: one, few, half of them, most, or all. Where several are drawn
+/// there may be none on a small board.
+pub fn opened(random: &mut Random, board: Board) -> Board {
+    let open = match random.below(8) {
+        0 | 1 => random.set_of_size(board.vertices, 1),
+        2..=4 => random.set(board.vertices, 150),
+        5 => random.set(board.vertices, 500),
+        6 => random.set(board.vertices, 850),
+        _ => vec![1; board.vertices],
+    };
+    Board { open, ..board }
+}
+
+/// A board of any kind with open vertices, or a planar one of a small side, its vertices numbered at
+/// random now and then.
+pub fn open_board(random: &mut Random) -> Board {
+    match random.below(Kind::ALL.len() + 2) {
+        0 => planar(random.from_to(2, 6)),
+        1 => {
+            let board = planar(random.from_to(2, 5));
+            renumbered(random, &board)
+        }
+        kind => {
+            let board = Kind::ALL[kind - 2].board(random);
+            opened(random, board)
+        }
+    }
+}
+
+/// The board with random lost edges and any syndrome at all; no open vertex is in it.
 pub fn any_syndrome(random: &mut Random, board: Board) -> Sheet {
     let loss = random.set(board.edges(), 200);
     let rate = [100, 300, 500][random.below(3)];
-    let syndrome = random.set(board.vertices, rate);
+    let syndrome = board.dark_where_open(random.set(board.vertices, rate));
     Sheet { board, syndrome, loss }
 }
 
 /// The board with random lost edges and the syndrome of a random set of edges, often few of each,
-/// and now and then with any syndrome at all, which may leave parts odd.
+/// and now and then with any syndrome at all, which may leave parts odd; no open vertex is in it.
 pub fn sheet(random: &mut Random, board: Board) -> Sheet {
     let edges = board.edges();
     let rate = [0, 50, 200, 500, 1000][random.below(5)];
@@ -246,7 +280,7 @@ pub fn sheet(random: &mut Random, board: Board) -> Sheet {
     let syndrome = if random.chance(850) {
         board.syndrome(&random.set(edges, rate))
     } else {
-        random.set(board.vertices, rate)
+        board.dark_where_open(random.set(board.vertices, rate))
     };
     Sheet { board, syndrome, loss }
 }

@@ -1,7 +1,9 @@
-//! Document 01, "Growth", steps 1 to 4.
+//! Document 01, "Growth", steps 1 to 4, with document 02, K5: a cluster that holds an open vertex is
+//! never odd, so it never grows.
 
-use crate::board::{Board, Sheet, members};
+use crate::board::{Board, Sheet};
 use crate::components::components;
+use crate::open_sides::odd_components;
 
 /// An edge with this support, in half-edges, is full.
 pub const FULL: u8 = 2;
@@ -13,7 +15,7 @@ pub struct Grown {
     pub support: Vec<u8>,
 }
 
-/// Growth of a sheet of which no connected part is odd.
+/// Growth of a sheet of which no connected part is odd: a part with an open vertex never is.
 pub fn grow(sheet: &Sheet) -> Grown {
     let board = &sheet.board;
     let mut support = start(sheet);
@@ -37,10 +39,7 @@ pub(crate) fn start(sheet: &Sheet) -> Vec<u8> {
 /// vertex. Clusters are named by their smallest vertex.
 fn choice(sheet: &Sheet, support: &[u8], cluster: &[usize]) -> Option<usize> {
     let vertices = sheet.board.vertices;
-    let mut odd = vec![false; vertices];
-    for vertex in members(&sheet.syndrome) {
-        odd[cluster[vertex]] ^= true;
-    }
+    let odd = odd_components(&sheet.board, &sheet.syndrome, cluster);
     let mut boundary = vec![0; vertices];
     let exposed = exposed(&sheet.board, support);
     for vertex in (0..vertices).filter(|&vertex| exposed[vertex]) {

@@ -1,9 +1,9 @@
 //! A plain decoder, written from document 01's steps and sharing nothing with the proved one.
 //!
-//! Nothing here is clever or fast: each section of document 01 is one module, in its words, and so is
-//! growing in rounds ([`rounds`]), which document 02 adds. Beside them stand a second way to find the
-//! number of a malformed line ([`line_numbers`]), a seeded generator of random numbers, and the boards
-//! that decoders are tried on.
+//! Nothing here is clever or fast: each section of document 01 is one module, in its words, and so are
+//! growing in rounds ([`rounds`]) and open sides ([`open_sides`], [`planar`]), which document 02 adds.
+//! Beside them stand a second way to find the number of a malformed line ([`line_numbers`]), a seeded
+//! generator of random numbers, and the boards that decoders are tried on.
 //!
 //! A set of vertices or edges is a slice with a byte for each, 0 or 1, as the calls are lent it.
 
@@ -15,7 +15,9 @@ pub mod distance;
 pub mod generators;
 pub mod growth;
 pub mod line_numbers;
+pub mod open_sides;
 pub mod peeling;
+pub mod planar;
 pub mod program;
 pub mod random;
 pub mod refusal;

@@ -46,19 +46,21 @@ pub fn is_text(bytes: &[u8]) -> bool {
 /// The sheet of which these bytes would be the text, if they are one. What is no number in them gives
 /// none; order, repeats and spelling are left to the comparison with the sheet's text.
 fn named(bytes: &[u8]) -> Option<Sheet> {
-    let (mut vertices, mut edges, mut lit, mut lost) = (0, Vec::new(), Vec::new(), Vec::new());
+    let (mut vertices, mut edges) = (0, Vec::new());
+    let (mut open, mut lit, mut lost) = (Vec::new(), Vec::new(), Vec::new());
     for line in str::from_utf8(bytes).ok()?.lines() {
         let (letter, fields) = line.split_once('\t')?;
         let numbers: Result<Vec<u16>, _> = fields.split('\t').map(str::parse).collect();
         match (letter, &numbers.ok()?[..]) {
             ("V", &[count]) => vertices = count.into(),
             ("E", &[a, b, mark]) => edges.push((a, b, mark.try_into().ok()?)),
+            ("O", &[vertex]) => open.push(vertex.into()),
             ("S", &[vertex]) => lit.push(vertex.into()),
             ("X", &[edge]) => lost.push(edge.into()),
             _ => return None,
         }
     }
     let below = |list: &[usize], count| list.iter().all(|&number| number < count);
-    let in_range = below(&lit, vertices) && below(&lost, edges.len());
-    in_range.then(|| Sheet::new(Board::new(vertices, &edges), &lit, &lost))
+    let in_range = below(&open, vertices) && below(&lit, vertices) && below(&lost, edges.len());
+    in_range.then(|| Sheet::new(Board::new(vertices, &edges).with_open(&open), &lit, &lost))
 }

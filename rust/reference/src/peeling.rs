@@ -18,25 +18,25 @@ pub fn forest(board: &Board, full: impl Fn(usize) -> bool) -> Vec<u8> {
     taken
 }
 
-/// The one subset of a forest whose syndrome is the one put. None if there is no such subset.
+/// The one subset of a forest that has these odd ends. None if there is no such subset.
 ///
-/// A leaf of the forest decides its edge: the edge is in the subset exactly where the leaf is lit,
+/// A leaf of the forest decides its edge: the edge is in the subset exactly where the leaf is wanted,
 /// and then its other end changes. Without that edge the rest is a smaller forest.
-pub fn peel(board: &Board, forest: &[u8], syndrome: &[u8]) -> Option<Vec<u8>> {
+pub fn peel(board: &Board, forest: &[u8], odd_ends: &[u8]) -> Option<Vec<u8>> {
     let mut correction = vec![0; board.edges()];
-    let mut lit = syndrome.to_vec();
+    let mut wanted = odd_ends.to_vec();
     let mut left: Vec<usize> = members(forest).collect();
     while let Some((at, leaf)) = find_leaf(board, &left) {
         let edge = left.swap_remove(at);
-        if lit[leaf] == 1 {
+        if wanted[leaf] == 1 {
             correction[edge] = 1;
             for end in board.ends_of(edge) {
-                lit[end] ^= 1;
+                wanted[end] ^= 1;
             }
         }
     }
     assert!(left.is_empty(), "a forest with edges has a leaf");
-    (!lit.contains(&1)).then_some(correction)
+    (!wanted.contains(&1)).then_some(correction)
 }
 
 /// An edge of the list, by its index there, with an end that no other edge of the list touches.

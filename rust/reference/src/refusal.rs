@@ -1,5 +1,6 @@
 //! Document 01, "Numbers and places": the tests of each call, in the order of their numbers. By
-//! document 02, K3, equal ends break no rule, so that number 5 never occurs.
+//! document 02, K3, equal ends break no rule, so that number 5 never occurs; by K5 the open bytes are
+//! tested after 8 and 9 and before 10.
 
 use crate::board::{Board, EDGE_LIMIT, Sheet, VERTEX_LIMIT};
 
@@ -54,7 +55,7 @@ fn edges(board: &Board) -> Test {
     first_place(6, count, |edge| board.marks[edge] > 3)
 }
 
-/// Numbers 7, 8 and 9: a byte above 1.
+/// Numbers 7, 8, 9 and 16: a byte above 1.
 fn bytes(number: u8, lent: &[u8]) -> Test {
     first_place(number, lent.len(), |place| lent[place] > 1)
 }
@@ -64,8 +65,12 @@ fn bytes(number: u8, lent: &[u8]) -> Test {
 fn sheet(sheet: &Sheet, further: &[usize]) -> Test {
     let Sheet { board, syndrome, loss } = sheet;
     let count = board.edges();
-    let mut lengths =
-        vec![(board.marks.len(), count), (syndrome.len(), board.vertices), (loss.len(), count)];
+    let mut lengths = vec![
+        (board.marks.len(), count),
+        (board.open.len(), board.vertices),
+        (syndrome.len(), board.vertices),
+        (loss.len(), count),
+    ];
     lengths.extend(further.iter().map(|&length| (length, count)));
     counts(board, &lengths)?;
     edges(board)?;
@@ -73,22 +78,33 @@ fn sheet(sheet: &Sheet, further: &[usize]) -> Test {
     bytes(8, loss)
 }
 
+/// Numbers 16 and 17: an open byte above 1, and an open vertex that is lit.
+fn open_sides(sheet: &Sheet) -> Test {
+    let open = &sheet.board.open;
+    bytes(16, open)?;
+    first_place(17, open.len(), |vertex| open[vertex] == 1 && sheet.syndrome[vertex] == 1)
+}
+
 /// The tests of decoding, which is lent buffers of these lengths to fill; all but number 10.
 pub fn decoding(lent: &Sheet, support: usize, correction: usize) -> Test {
-    sheet(lent, &[support, correction])
+    sheet(lent, &[support, correction])?;
+    open_sides(lent)
 }
 
 /// The tests of the verdict; all but number 10.
 pub fn verdict(lent: &Sheet, handed: &[u8]) -> Test {
     sheet(lent, &[handed.len()])?;
-    bytes(9, handed)
+    bytes(9, handed)?;
+    open_sides(lent)
 }
 
 /// The tests of the distance, which is lent a buffer of this length to fill.
 pub fn distance(board: &Board, shown: usize) -> Test {
     let count = board.edges();
-    counts(board, &[(board.marks.len(), count), (shown, count)])?;
-    edges(board)
+    let lengths = [(board.marks.len(), count), (board.open.len(), board.vertices), (shown, count)];
+    counts(board, &lengths)?;
+    edges(board)?;
+    bytes(16, &board.open)
 }
 
 /// The tests of the torus builder, which is lent buffers of these lengths to fill. The lengths are
@@ -99,11 +115,23 @@ pub fn torus(side: u32, ends: usize, marks: usize) -> Test {
     buffer_lengths(&[(ends, 4 * side * side), (marks, 2 * side * side)])
 }
 
+/// The tests of the planar builder, which is lent buffers of these lengths to fill. The side is tested
+/// first, and is the only range that is tested.
+pub fn planar(side: u32, ends: usize, marks: usize, open: usize) -> Test {
+    let side = side as usize;
+    unless((2..=31).contains(&side), 18, side)?;
+    let along_rows = side * side;
+    let down_inner_columns = (side - 1) * (side - 1);
+    let edges = along_rows + down_inner_columns;
+    buffer_lengths(&[(ends, 2 * edges), (marks, edges), (open, side * (side + 1))])
+}
+
 /// The tests of the reader on the buffers that it is lent to fill.
-pub fn reader(ends: usize, marks: usize, syndrome: usize, loss: usize) -> Test {
+pub fn reader(ends: usize, marks: usize, open: usize, syndrome: usize, loss: usize) -> Test {
     buffer_lengths(&[
         (ends, 2 * EDGE_LIMIT),
         (marks, EDGE_LIMIT),
+        (open, VERTEX_LIMIT),
         (syndrome, VERTEX_LIMIT),
         (loss, EDGE_LIMIT),
     ])
@@ -111,5 +139,6 @@ pub fn reader(ends: usize, marks: usize, syndrome: usize, loss: usize) -> Test {
 
 /// The tests of the writer on the sheet that it is lent.
 pub fn writer(lent: &Sheet) -> Test {
-    sheet(lent, &[])
+    sheet(lent, &[])?;
+    open_sides(lent)
 }

@@ -1,9 +1,11 @@
-//! Document 02, K8, "Growing in rounds": all odd clusters grow together.
+//! Document 02, K8, "Growing in rounds": all odd clusters grow together. By K5 none that holds an open
+//! vertex is odd.
 
-use crate::board::{Board, Sheet, members, size};
+use crate::board::{Board, Sheet, size};
 use crate::components::components;
 use crate::decoding::{every_part_even, peeled};
 use crate::growth::{FULL, start};
+use crate::open_sides::odd_components;
 use crate::refusal::{self, Refusal};
 
 /// What decoding in rounds returns and writes.
@@ -56,14 +58,11 @@ fn grow(sheet: &Sheet) -> (usize, Vec<u8>) {
     }
 }
 
-/// Of each vertex, whether it lies in a cluster with an odd number of syndrome vertices.
+/// Of each vertex, whether it lies in an odd cluster.
 fn in_odd_clusters(sheet: &Sheet, support: &[u8]) -> Vec<bool> {
     let cluster = components(&sheet.board, |edge| support[edge] == FULL);
-    let mut lit = vec![0; sheet.board.vertices];
-    for vertex in members(&sheet.syndrome) {
-        lit[cluster[vertex]] += 1;
-    }
-    cluster.iter().map(|&name| lit[name] % 2 == 1).collect()
+    let odd = odd_components(&sheet.board, &sheet.syndrome, &cluster);
+    cluster.iter().map(|&name| odd[name]).collect()
 }
 
 /// The supports after a round at whose beginning these vertices lay in odd clusters: each edge gains

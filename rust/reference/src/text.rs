@@ -1,4 +1,4 @@
-//! Document 01, "Text".
+//! Document 01, "Text", with the `O` lines of document 02, K5.
 
 use crate::board::{Board, EDGE_LIMIT, Sheet, VERTEX_LIMIT, members};
 use crate::refusal::{self, Refusal, refuse};
@@ -46,6 +46,9 @@ pub fn write(sheet: &Sheet) -> Vec<u8> {
         let [a, b] = board.ends_of(edge);
         text += &format!("E\t{a}\t{b}\t{mark}\n");
     }
+    for vertex in members(&board.open) {
+        text += &format!("O\t{vertex}\n");
+    }
     for vertex in members(&sheet.syndrome) {
         text += &format!("S\t{vertex}\n");
     }
@@ -60,6 +63,7 @@ pub fn write(sheet: &Sheet) -> Vec<u8> {
 struct Reading {
     vertices: Option<usize>,
     edges: Vec<(u16, u16, u8)>,
+    open: Vec<usize>,
     lit: Vec<usize>,
     lost: Vec<usize>,
 }
@@ -80,27 +84,39 @@ impl Reading {
             [b"E", a, b, mark] => {
                 let (a, b) = (number(a, vertices)?, number(b, vertices)?);
                 let mark = number(mark, 4)? as u8;
-                let in_order = self.lit.is_empty() && self.lost.is_empty();
+                let in_order =
+                    [&self.open, &self.lit, &self.lost].iter().all(|list| list.is_empty());
                 let fits = self.edges.len() < EDGE_LIMIT;
                 (in_order && fits).then(|| self.edges.push((a as u16, b as u16, mark)))
             }
+            [b"O", vertex] => {
+                let vertex = number(vertex, vertices)?;
+                let in_order = self.lit.is_empty() && self.lost.is_empty();
+                (in_order && rises(&self.open, vertex)).then(|| self.open.push(vertex))
+            }
             [b"S", vertex] => {
                 let vertex = number(vertex, vertices)?;
-                let in_order = self.lost.is_empty() && self.lit.last().is_none_or(|&v| v < vertex);
-                in_order.then(|| self.lit.push(vertex))
+                let may_be_lit = !self.open.contains(&vertex);
+                let in_order = self.lost.is_empty() && rises(&self.lit, vertex);
+                (may_be_lit && in_order).then(|| self.lit.push(vertex))
             }
             [b"X", edge] => {
                 let edge = number(edge, self.edges.len())?;
-                let in_order = self.lost.last().is_none_or(|&e| e < edge);
-                in_order.then(|| self.lost.push(edge))
+                rises(&self.lost, edge).then(|| self.lost.push(edge))
             }
             _ => None,
         }
     }
 
     fn sheet(&self, vertices: usize) -> Sheet {
-        Sheet::new(Board::new(vertices, &self.edges), &self.lit, &self.lost)
+        let board = Board::new(vertices, &self.edges).with_open(&self.open);
+        Sheet::new(board, &self.lit, &self.lost)
     }
+}
+
+/// Whether a number is above the last of a list, or the list is empty.
+fn rises(list: &[usize], number: usize) -> bool {
+    list.last().is_none_or(|&last| last < number)
 }
 
 /// A number below the limit, in base ten without leading zeros.

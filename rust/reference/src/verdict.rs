@@ -1,4 +1,5 @@
-//! Document 01, "Verdict".
+//! Document 01, "Verdict". By document 02, K5, no syndrome has an open vertex, so none is where two
+//! syndromes differ.
 
 use crate::board::{Sheet, together};
 use crate::decoding::key;

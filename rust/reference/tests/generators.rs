@@ -2,7 +2,7 @@
 
 use reference::board::size;
 use reference::components::components;
-use reference::generators::{Kind, late_smallest, sheet};
+use reference::generators::{Kind, late_smallest, open_board, sheet};
 use reference::refusal::NO_CORRECTION;
 use reference::{Random, decode};
 
@@ -58,6 +58,38 @@ fn loop_edges_of_each_kind() {
             _ => assert!(0 < loops && 4 * loops < edges, "{kind:?}: {loops} of {edges}"),
         }
     }
+}
+
+/// Boards with open vertices: few and many, sheets of every kind of outcome, and clusters that hold
+/// several open vertices with an odd number of lit ones.
+#[test]
+fn open_boards_keep_the_rules() {
+    let mut random = Random::new(33);
+    let (mut none, mut one, mut several, mut all) = (0, 0, 0, 0);
+    let (mut grown, mut still, mut refused, mut open_ended) = (0, 0, 0, 0);
+    for _ in 0..3000 {
+        let board = open_board(&mut random);
+        let sheet = sheet(&mut random, board);
+        let board = &sheet.board;
+        match size(&board.open) {
+            0 => none += 1,
+            open if open == board.vertices => all += 1,
+            1 => one += 1,
+            _ => several += 1,
+        }
+        match decode(&sheet) {
+            Ok(key) => {
+                *(if key.growths > 0 { &mut grown } else { &mut still }) += 1;
+                open_ended += usize::from(board.odd_ends(&key.correction) != sheet.syndrome);
+            }
+            Err(refusal) => {
+                assert_eq!(refusal.number, NO_CORRECTION, "{sheet:?}");
+                refused += 1;
+            }
+        }
+    }
+    let seen = [none, one, several, all, grown, still, refused, open_ended];
+    assert!(seen.iter().all(|&count| count > 20), "{seen:?}");
 }
 
 #[test]

@@ -28,6 +28,7 @@ fn reads(bytes: &[u8]) -> bool {
 #[test]
 fn one_position_for_each_damaged_text() {
     let board = Board::new(12, &[(0, 11, 0), (10, 2, 3), (10, 10, 3), (9, 0, 2)]);
+    let board = board.with_open(&[2, 11]);
     let text = text::write(&Sheet::new(board, &[0, 7], &[1, 3]));
     let mut random = Random::new(9);
     let mut damaged = [damage::each_byte(&text), damage::each_line(&text)].concat();

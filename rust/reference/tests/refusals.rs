@@ -4,7 +4,9 @@ use reference::board::{Board, Sheet};
 use reference::decoding::decode_into;
 use reference::distance::distance_into;
 use reference::generators::{path, ring};
+use reference::planar::planar_into;
 use reference::refusal::{Refusal, reader};
+use reference::text::write_into;
 use reference::torus::torus_into;
 use reference::verdict::{Verdict, verdict};
 
@@ -84,7 +86,49 @@ fn torus_sides_and_reader_lengths() {
     for side in [0, 33, u32::MAX] {
         assert_eq!(refused(torus_into(side, 0, 0)), (11, side.into()));
     }
-    assert_eq!(reader(8192, 4096, 1024, 4096), Ok(()));
-    assert_eq!(refused(reader(8192, 4096, 1024, 4095)), (3, 0));
-    assert_eq!(refused(reader(8190, 4096, 1024, 4096)), (3, 0));
+    assert_eq!(reader(8192, 4096, 1024, 1024, 4096), Ok(()));
+    assert_eq!(refused(reader(8192, 4096, 1024, 1024, 4095)), (3, 0));
+    assert_eq!(refused(reader(8192, 4096, 1023, 1024, 4096)), (3, 0));
+    assert_eq!(refused(reader(8192, 4096, 1025, 1024, 4096)), (3, 0));
+    assert_eq!(refused(reader(8190, 4096, 1024, 1024, 4096)), (3, 0));
+}
+
+/// Side 2 has 5 edges and 6 vertices, side 31 has 1,861 edges and 992 vertices.
+#[test]
+fn planar_sides() {
+    for (side, edges, vertices) in [(2, 5, 6), (3, 13, 12), (31, 1861, 992)] {
+        assert!(planar_into(side, 2 * edges, edges, vertices).is_ok());
+        assert_eq!(refused(planar_into(side, 2 * edges + 1, edges, vertices)), (3, 0));
+        assert_eq!(refused(planar_into(side, 2 * edges, edges - 1, vertices)), (3, 0));
+        assert_eq!(refused(planar_into(side, 2 * edges, edges, vertices + 1)), (3, 0));
+    }
+    for side in [0, 1, 32, u32::MAX] {
+        assert_eq!(refused(planar_into(side, 0, 0, 0)), (18, side.into()));
+    }
+}
+
+/// 16 comes after 8 and 9, 17 right after it, and 10 or the writer's own numbers last. The distance is
+/// lent no syndrome, so that it has no 17.
+#[test]
+fn open_bytes_and_open_vertices_that_are_lit() {
+    let board = path(4).with_open(&[1, 2]);
+    let mut sheet = Sheet { board, syndrome: vec![0, 0, 1, 0], loss: vec![0, 0, 2] };
+    sheet.board.open[3] = 2;
+    assert_eq!(refused(verdict(&sheet, &[0, 2, 0])), (8, 2));
+    sheet.loss[2] = 0;
+    assert_eq!(refused(verdict(&sheet, &[0, 2, 0])), (9, 1));
+    assert_eq!(refused(verdict(&sheet, &[0; 3])), (16, 3));
+    assert_eq!(refused(decode_into(&sheet, 3, 3)), (16, 3));
+    assert_eq!(refused(distance_into(&sheet.board, 3)), (16, 3));
+    assert_eq!(refused(write_into(&sheet, 0)), (16, 3));
+    sheet.board.open[3] = 0;
+    assert_eq!(refused(verdict(&sheet, &[0; 3])), (17, 2));
+    assert_eq!(refused(decode_into(&sheet, 3, 3)), (17, 2));
+    assert_eq!(refused(write_into(&sheet, 0)), (17, 2));
+    assert_eq!(distance_into(&sheet.board, 3), Ok(None));
+    sheet.syndrome[2] = 0;
+    assert_eq!(refused(write_into(&sheet, 0)), (14, 0));
+    sheet.board.open.push(0);
+    assert_eq!(refused(decode_into(&sheet, 3, 3)), (3, 0));
+    assert_eq!(refused(distance_into(&sheet.board, 3)), (3, 0));
 }

@@ -1,7 +1,7 @@
 //! Document 01, "Text": which line is the first malformed one, and that reading undoes writing.
 
 use reference::board::{EDGE_LIMIT, Sheet};
-use reference::generators::{Kind, crowd, sheet};
+use reference::generators::{Kind, crowd, open_board, sheet};
 use reference::refusal::Refusal;
 use reference::text::{TEXT_LIMIT, read, write, write_into};
 use reference::{Random, generators, line_numbers};
@@ -37,6 +37,17 @@ fn first_malformed_line() {
         ("V\t4\nE\t0\t1\t4\n", 2),
         ("V\t4\nE\t0\t1\n", 2),
         ("V\t4\nE\t0\t1\t0\t0\n", 2),
+        ("V\t4\nO\t4\n", 2),
+        ("V\t4\nO\n", 2),
+        ("V\t4\nO\t0\t1\n", 2),
+        ("V\t4\nO\t1\nO\t1\n", 3),
+        ("V\t4\nO\t1\nO\t0\n", 3),
+        ("V\t4\nO\t1\nE\t0\t1\t0\n", 3),
+        ("V\t4\nS\t1\nO\t2\n", 3),
+        ("V\t4\nE\t0\t1\t0\nX\t0\nO\t2\n", 4),
+        ("V\t4\nO\t1\nS\t1\n", 3),
+        ("V\t4\nO\t1\nO\t3\nS\t0\nS\t3\n", 5),
+        ("O\t0\nV\t4\n", 1),
         ("V\t4\nS\t4\n", 2),
         ("V\t4\nS\t1\nS\t1\n", 3),
         ("V\t4\nS\t1\nS\t0\n", 3),
@@ -62,6 +73,9 @@ fn well_formed() {
         "V\t2\nE\t0\t1\t3\nE\t0\t1\t3\nS\t0\nS\t1\nX\t0\nX\t1\n",
         "V\t1\nE\t0\t0\t1\nE\t0\t0\t2\n",
         "V\t4\nE\t3\t3\t0\nE\t1\t0\t3\nE\t3\t3\t0\nS\t3\nX\t0\nX\t2\n",
+        "V\t1\nO\t0\n",
+        "V\t4\nO\t0\nO\t1\nO\t2\nO\t3\n",
+        "V\t4\nE\t0\t1\t0\nO\t1\nO\t3\nS\t0\nS\t2\nX\t0\n",
     ];
     for text in texts {
         let sheet = read(text.as_bytes()).expect(text);
@@ -105,6 +119,11 @@ fn reading_undoes_writing() {
     for round in 0..2000 {
         let board = Kind::ALL[round % Kind::ALL.len()].board(&mut random);
         let sheet = sheet(&mut random, board);
+        assert_eq!(read(&write(&sheet)), Ok(sheet));
+    }
+    for _ in 0..2000 {
+        let board = open_board(&mut random);
+        let sheet = generators::sheet(&mut random, board);
         assert_eq!(read(&write(&sheet)), Ok(sheet));
     }
 }

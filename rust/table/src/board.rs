@@ -1,6 +1,6 @@
 //! What the calls are lent to read, and the limits of it.
 
-/// The largest vertex count of a board, and the count of syndrome bytes that
+/// The largest vertex count of a board, and the count of open bytes and of syndrome bytes that
 /// [`read`](crate::read) is lent.
 pub const VERTICES: usize = 1024;
 
@@ -21,6 +21,10 @@ pub struct Board<'a> {
     pub ends: &'a [u16],
     /// One for each edge, 0 to 3: bit 0 says that it crosses line A, bit 1 line B.
     pub marks: &'a [u8],
+    /// A byte for each vertex, 1 where it is open, else 0: at an open vertex an error may run off the
+    /// board, so it has no syndrome, and a set may end there and be closed. All are 0 on a board
+    /// without open sides.
+    pub open: &'a [u8],
 }
 
 /// A board with its syndrome and its lost edges.
@@ -28,7 +32,7 @@ pub struct Board<'a> {
 pub struct Sheet<'a> {
     /// The board that was drawn.
     pub board: Board<'a>,
-    /// A byte for each vertex, 1 where it is in the syndrome, else 0.
+    /// A byte for each vertex, 1 where it is in the syndrome, else 0; 0 at each open vertex.
     pub syndrome: &'a [u8],
     /// A byte for each edge, 1 where it is lost, else 0.
     pub loss: &'a [u8],

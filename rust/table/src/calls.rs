@@ -3,6 +3,7 @@
 mod decode;
 mod decode_rounds;
 mod distance;
+mod planar;
 mod read;
 mod torus;
 mod verdict;
@@ -11,6 +12,7 @@ mod write;
 pub use decode::{Key, decode};
 pub use decode_rounds::{RoundsKey, decode_rounds};
 pub use distance::distance;
+pub use planar::planar;
 pub use read::{Counts, read};
 pub use torus::torus;
 pub use verdict::{Verdict, verdict};

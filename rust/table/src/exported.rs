@@ -29,6 +29,8 @@ unsafe extern "C" {
         ends_count: usize,
         marks: *const u8,
         marks_count: usize,
+        open: *const u8,
+        open_count: usize,
         syndrome: *const u8,
         syndrome_count: usize,
         loss: *const u8,
@@ -45,6 +47,8 @@ unsafe extern "C" {
         ends_count: usize,
         marks: *const u8,
         marks_count: usize,
+        open: *const u8,
+        open_count: usize,
         syndrome: *const u8,
         syndrome_count: usize,
         loss: *const u8,
@@ -61,6 +65,8 @@ unsafe extern "C" {
         ends_count: usize,
         marks: *const u8,
         marks_count: usize,
+        open: *const u8,
+        open_count: usize,
         syndrome: *const u8,
         syndrome_count: usize,
         loss: *const u8,
@@ -75,6 +81,8 @@ unsafe extern "C" {
         ends_count: usize,
         marks: *const u8,
         marks_count: usize,
+        open: *const u8,
+        open_count: usize,
         shown: *mut u8,
         shown_count: usize,
     ) -> u64;
@@ -87,6 +95,16 @@ unsafe extern "C" {
         marks_count: usize,
     ) -> u64;
 
+    pub fn surface_planar(
+        side: u32,
+        ends: *mut u16,
+        ends_count: usize,
+        marks: *mut u8,
+        marks_count: usize,
+        open: *mut u8,
+        open_count: usize,
+    ) -> u64;
+
     pub fn surface_read(
         text: *const u8,
         text_count: usize,
@@ -94,6 +112,8 @@ unsafe extern "C" {
         ends_count: usize,
         marks: *mut u8,
         marks_count: usize,
+        open: *mut u8,
+        open_count: usize,
         syndrome: *mut u8,
         syndrome_count: usize,
         loss: *mut u8,
@@ -106,6 +126,8 @@ unsafe extern "C" {
         ends_count: usize,
         marks: *const u8,
         marks_count: usize,
+        open: *const u8,
+        open_count: usize,
         syndrome: *const u8,
         syndrome_count: usize,
         loss: *const u8,

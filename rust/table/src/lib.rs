@@ -17,7 +17,8 @@
 //! use table::{Board, Key, Sheet, decode};
 //!
 //! # fn main() -> Result<(), table::Refusal> {
-//! let board = Board { vertices: 4, ends: &[0, 1, 1, 2, 2, 3, 3, 0], marks: &[0, 0, 0, 1] };
+//! let ends = &[0, 1, 1, 2, 2, 3, 3, 0];
+//! let board = Board { vertices: 4, ends, marks: &[0, 0, 0, 1], open: &[0; 4] };
 //! let sheet = Sheet { board, syndrome: &[1, 0, 0, 1], loss: &[0; 4] };
 //! let (mut support, mut correction) = ([0; 4], [0; 4]);
 //! let key = decode(sheet, &mut support, &mut correction)?;
@@ -38,5 +39,5 @@ mod refusal;
 
 pub use board::{Board, EDGES, Sheet, TEXT, VERTICES};
 pub use calls::{Counts, Key, RoundsKey, Verdict};
-pub use calls::{decode, decode_rounds, distance, read, torus, verdict, write};
+pub use calls::{decode, decode_rounds, distance, planar, read, torus, verdict, write};
 pub use refusal::Refusal;

@@ -38,6 +38,8 @@ mod tests {
         assert_eq!(unpack(2047 << 8 | 4, &[3, 4]), Err(Refusal::EndRange(2047)));
         let side = u64::from(u32::MAX) << 8 | 11;
         assert_eq!(unpack(side, &[11]), Err(Refusal::TorusSide(u32::MAX)));
+        let side = u64::from(u32::MAX) << 8 | 18;
+        assert_eq!(unpack(side, &[3, 18]), Err(Refusal::PlanarSide(u32::MAX)));
     }
 
     #[test]

@@ -7,9 +7,11 @@ use crate::{EDGES, TEXT, VERTICES};
 
 /// The rule that is broken, with the place where it is broken.
 ///
-/// Of all the rules that a call's buffers break, the one with the smallest number is given, at its
-/// smallest place; the torus builder alone tests 11 before 3. Number 5 is not in use. A call that
-/// refuses has written nothing. What is displayed is a sentence with the place.
+/// Of all the rules that a call's buffers break, the one that the call tests first is given, at its
+/// smallest place. That is the one with the smallest number, but for three: 16 and 17 are tested
+/// before 10, 12 and 14, the torus builder tests 11 before 3, and the planar builder 18 before 3.
+/// Numbers 5 and 15 are not in use. A call that refuses has written nothing. What is displayed is a
+/// sentence with the place.
 ///
 /// # Examples
 ///
@@ -41,8 +43,9 @@ pub enum Refusal {
     LossByte(usize),
     /// Number 9: this edge has a handed-in byte above 1.
     HandedByte(usize),
-    /// Number 10: no set of edges has the syndrome, since some connected part of the board holds an
-    /// odd number of syndrome vertices; this is the smallest vertex of all such parts.
+    /// Number 10: no set of edges has the syndrome, since some connected part of the board is odd: it
+    /// holds an odd number of syndrome vertices, and no open vertex. This is the smallest vertex of
+    /// all such parts.
     NoCorrection(usize),
     /// Number 11: no torus is built with this side.
     TorusSide(u32),
@@ -52,6 +55,12 @@ pub enum Refusal {
     MalformedLine(usize),
     /// Number 14: the buffer to be written is shorter than the text.
     TextBuffer,
+    /// Number 16: this vertex has an open byte above 1.
+    OpenByte(usize),
+    /// Number 17: this vertex is open and in the syndrome.
+    LitOpen(usize),
+    /// Number 18: no planar board is built with this side.
+    PlanarSide(u32),
 }
 
 impl Refusal {
@@ -72,6 +81,9 @@ impl Refusal {
             Refusal::TextLength => 12,
             Refusal::MalformedLine(_) => 13,
             Refusal::TextBuffer => 14,
+            Refusal::OpenByte(_) => 16,
+            Refusal::LitOpen(_) => 17,
+            Refusal::PlanarSide(_) => 18,
         }
     }
 
@@ -90,8 +102,10 @@ impl Refusal {
             | Refusal::LossByte(place)
             | Refusal::HandedByte(place)
             | Refusal::NoCorrection(place)
-            | Refusal::MalformedLine(place) => place as u64,
-            Refusal::TorusSide(side) => side as u64,
+            | Refusal::MalformedLine(place)
+            | Refusal::OpenByte(place)
+            | Refusal::LitOpen(place) => place as u64,
+            Refusal::TorusSide(side) | Refusal::PlanarSide(side) => side as u64,
         }
     }
 
@@ -115,6 +129,9 @@ impl Refusal {
             12 => Refusal::TextLength,
             13 if (1..=TEXT + 1).contains(&at) => Refusal::MalformedLine(at),
             14 => Refusal::TextBuffer,
+            16 => Refusal::OpenByte(vertex?),
+            17 => Refusal::LitOpen(vertex?),
+            18 => Refusal::PlanarSide(u32::try_from(place).ok()?),
             _ => return None,
         };
         (refusal.place() == place).then_some(refusal)
@@ -143,6 +160,11 @@ impl fmt::Display for Refusal {
             Refusal::TextLength => write!(to, "the text has more than 65,536 bytes"),
             Refusal::MalformedLine(line) => write!(to, "line {line} is malformed"),
             Refusal::TextBuffer => write!(to, "the buffer is shorter than the text"),
+            Refusal::OpenByte(vertex) => write!(to, "vertex {vertex} has an open byte above 1"),
+            Refusal::LitOpen(vertex) => write!(to, "vertex {vertex} is open and lit"),
+            Refusal::PlanarSide(side) => {
+                write!(to, "side {side} of a planar board is outside 2 to 31")
+            }
         }
     }
 }
@@ -154,7 +176,7 @@ mod tests {
     use super::Refusal;
 
     /// Each number with its smallest and its largest place.
-    const PLACES: [(u8, u64, u64); 13] = [
+    const PLACES: [(u8, u64, u64); 16] = [
         (1, 0, 0),
         (2, 0, 0),
         (3, 0, 0),
@@ -168,6 +190,9 @@ mod tests {
         (12, 0, 0),
         (13, 1, 65_537),
         (14, 0, 0),
+        (16, 0, 1023),
+        (17, 0, 1023),
+        (18, 0, u32::MAX as u64),
     ];
 
     #[test]
@@ -187,7 +212,7 @@ mod tests {
 
     #[test]
     fn other_numbers_are_no_refusal() {
-        for number in (15..=u8::MAX).chain([0, 5]) {
+        for number in (19..=u8::MAX).chain([0, 5, 15]) {
             for place in [0, 1, 4095] {
                 assert_eq!(Refusal::new(number, place), None, "{number}");
             }

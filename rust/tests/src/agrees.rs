@@ -7,6 +7,7 @@ use reference::board::{Board, Sheet, size};
 use reference::decoding::decode_into;
 use reference::distance::distance_into;
 use reference::line_numbers::first_malformed_line;
+use reference::planar::planar_into;
 use reference::refusal;
 use reference::rounds::decode_rounds_into;
 use reference::text::{self, write_into};
@@ -35,6 +36,7 @@ struct LentSheet<'a> {
     sheet: &'a Sheet,
     ends: Guarded<u16>,
     marks: Guarded<u8>,
+    open: Guarded<u8>,
     syndrome: Guarded<u8>,
     loss: Guarded<u8>,
 }
@@ -45,6 +47,7 @@ impl LentSheet<'_> {
             sheet,
             ends: Guarded::new(&sheet.board.ends, END_GUARD),
             marks: Guarded::new(&sheet.board.marks, BYTE_GUARD),
+            open: Guarded::new(&sheet.board.open, BYTE_GUARD),
             syndrome: Guarded::new(&sheet.syndrome, BYTE_GUARD),
             loss: Guarded::new(&sheet.loss, BYTE_GUARD),
         }
@@ -56,6 +59,7 @@ impl LentSheet<'_> {
                 vertices: self.sheet.board.vertices,
                 ends: self.ends.lent(),
                 marks: self.marks.lent(),
+                open: self.open.lent(),
             },
             syndrome: self.syndrome.lent(),
             loss: self.loss.lent(),
@@ -65,6 +69,7 @@ impl LentSheet<'_> {
     fn returned(self) {
         self.ends.returned_unchanged(&self.sheet.board.ends);
         self.marks.returned_unchanged(&self.sheet.board.marks);
+        self.open.returned_unchanged(&self.sheet.board.open);
         self.syndrome.returned_unchanged(&self.sheet.syndrome);
         self.loss.returned_unchanged(&self.sheet.loss);
     }
@@ -171,12 +176,19 @@ pub fn verdict(sheet: &Sheet, handed: &[u8]) -> Result<Verdict, Refusal> {
 pub fn distance_with(board: &Board, shown: usize) -> Result<Option<usize>, Refusal> {
     let mut ends = Guarded::new(&board.ends, END_GUARD);
     let mut marks = Guarded::new(&board.marks, BYTE_GUARD);
+    let mut open = Guarded::new(&board.open, BYTE_GUARD);
     let before = noise(shown);
     let mut shown_bytes = Guarded::new(&before, BYTE_GUARD);
-    let lent = table::Board { vertices: board.vertices, ends: ends.lent(), marks: marks.lent() };
+    let lent = table::Board {
+        vertices: board.vertices,
+        ends: ends.lent(),
+        marks: marks.lent(),
+        open: open.lent(),
+    };
     let answer = table::distance(lent, shown_bytes.lent());
     ends.returned_unchanged(&board.ends);
     marks.returned_unchanged(&board.marks);
+    open.returned_unchanged(&board.open);
     let after = shown_bytes.returned();
     match (answer, distance_into(board, shown)) {
         (Ok(Some(fewest)), Ok(Some(plain))) => {
@@ -225,18 +237,44 @@ pub fn torus_with(side: u32, ends: usize, marks: usize) -> Result<Board, Refusal
     }
 }
 
+/// The planar board of a side with buffers of these lengths to fill.
+pub fn planar_with(side: u32, ends: usize, marks: usize, open: usize) -> Result<Board, Refusal> {
+    let before = (end_noise(ends), noise(marks), noise(open));
+    let mut ends_filled = Guarded::new(&before.0, END_GUARD);
+    let mut marks_filled = Guarded::new(&before.1, BYTE_GUARD);
+    let mut open_filled = Guarded::new(&before.2, BYTE_GUARD);
+    let answer = table::planar(side, ends_filled.lent(), marks_filled.lent(), open_filled.lent());
+    let after = (ends_filled.returned(), marks_filled.returned(), open_filled.returned());
+    match (answer, planar_into(side, ends, marks, open)) {
+        (Ok(vertices), Ok(board)) => {
+            assert_eq!(vertices, board.vertices, "side {side}");
+            let Board { ends, marks, open, .. } = board.clone();
+            assert_eq!(after, (ends, marks, open), "side {side}");
+            Ok(board)
+        }
+        (Err(refusal), Err(plain)) => {
+            assert!(is_refusal(refusal, plain), "{refusal:?}, not {plain:?}: side {side}");
+            assert_eq!(after, before, "a refusal wrote: side {side}");
+            Err(refusal)
+        }
+        (answer, plain) => panic!("{answer:?}, not {plain:?}: side {side}"),
+    }
+}
+
 /// Lengths of the buffers that the reader fills.
 #[derive(Clone, Copy, Debug, PartialEq, Eq)]
 pub struct Lengths {
     pub ends: usize,
     pub marks: usize,
+    pub open: usize,
     pub syndrome: usize,
     pub loss: usize,
 }
 
 impl Lengths {
     /// The lengths that the reader asks for.
-    pub const RIGHT: Lengths = Lengths { ends: 8192, marks: 4096, syndrome: 1024, loss: 4096 };
+    pub const RIGHT: Lengths =
+        Lengths { ends: 8192, marks: 4096, open: 1024, syndrome: 1024, loss: 4096 };
 }
 
 /// What the buffers hold that the reader fills.
@@ -244,6 +282,7 @@ impl Lengths {
 struct Filled {
     ends: Vec<u16>,
     marks: Vec<u8>,
+    open: Vec<u8>,
     syndrome: Vec<u8>,
     loss: Vec<u8>,
 }
@@ -253,6 +292,7 @@ impl Filled {
         Filled {
             ends: end_noise(lengths.ends),
             marks: noise(lengths.marks),
+            open: noise(lengths.open),
             syndrome: noise(lengths.syndrome),
             loss: noise(lengths.loss),
         }
@@ -262,6 +302,7 @@ impl Filled {
     fn with(mut self, sheet: &Sheet) -> Filled {
         self.ends[..sheet.board.ends.len()].copy_from_slice(&sheet.board.ends);
         self.marks[..sheet.board.marks.len()].copy_from_slice(&sheet.board.marks);
+        self.open[..sheet.board.open.len()].copy_from_slice(&sheet.board.open);
         self.syndrome[..sheet.syndrome.len()].copy_from_slice(&sheet.syndrome);
         self.loss[..sheet.loss.len()].copy_from_slice(&sheet.loss);
         self
@@ -274,19 +315,27 @@ pub fn read_with(input: &[u8], lengths: Lengths) -> Result<Sheet, Refusal> {
     let before = Filled::noise(lengths);
     let mut ends = Guarded::new(&before.ends, END_GUARD);
     let mut marks = Guarded::new(&before.marks, BYTE_GUARD);
+    let mut open = Guarded::new(&before.open, BYTE_GUARD);
     let mut syndrome = Guarded::new(&before.syndrome, BYTE_GUARD);
     let mut loss = Guarded::new(&before.loss, BYTE_GUARD);
-    let answer =
-        table::read(text_bytes.lent(), ends.lent(), marks.lent(), syndrome.lent(), loss.lent());
+    let answer = table::read(
+        text_bytes.lent(),
+        ends.lent(),
+        marks.lent(),
+        open.lent(),
+        syndrome.lent(),
+        loss.lent(),
+    );
     text_bytes.returned_unchanged(input);
     let after = Filled {
         ends: ends.returned(),
         marks: marks.returned(),
+        open: open.returned(),
         syndrome: syndrome.returned(),
         loss: loss.returned(),
     };
-    let Lengths { ends, marks, syndrome, loss } = lengths;
-    let plain = refusal::reader(ends, marks, syndrome, loss).and_then(|()| text::read(input));
+    let Lengths { ends, marks, open, syndrome, loss } = lengths;
+    let plain = refusal::reader(ends, marks, open, syndrome, loss).and_then(|()| text::read(input));
     let shown = String::from_utf8_lossy(input);
     match (answer, plain) {
         (Ok(Counts { vertices, edges }), Ok(sheet)) => {

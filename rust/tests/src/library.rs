@@ -3,7 +3,8 @@
 use reference::{Board, Key, Refusal, RoundsKey, Sheet};
 
 fn lent(board: &Board) -> table::Board<'_> {
-    table::Board { vertices: board.vertices, ends: &board.ends, marks: &board.marks }
+    let Board { vertices, ends, marks, open } = board;
+    table::Board { vertices: *vertices, ends, marks, open }
 }
 
 fn lent_sheet(sheet: &Sheet) -> table::Sheet<'_> {

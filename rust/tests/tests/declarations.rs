@@ -19,6 +19,15 @@ fn functions(source: &str, start: &str, parameter: fn(&str) -> String) -> Vec<Fu
     source.split(start).skip(1).map(function).collect()
 }
 
+/// A parameter of the Rattle source as it stands there, but for the open bytes, which it calls
+/// `opened`.
+fn in_rattle(parameter: &str) -> String {
+    match parameter.strip_prefix("opened: ") {
+        Some(kind) => format!("open: {kind}"),
+        None => parameter.to_string(),
+    }
+}
+
 /// A parameter of C as Rust writes it: `const uint8_t *loss` is `loss: *const u8`.
 fn in_rust(parameter: &str) -> String {
     let (kind, name) = parameter.rsplit_once([' ', '*']).expect("a type and a name");
@@ -59,11 +68,29 @@ fn slices(parameters: Vec<String>) -> Vec<String> {
 
 #[test]
 fn declared_as_exported() {
-    let exported = functions(RATTLE, "pub extern \"C\" fn ", str::to_string);
-    assert_eq!(exported.len(), 7);
+    let exported = functions(RATTLE, "pub extern \"C\" fn ", in_rattle);
+    assert_eq!(exported.len(), 8);
     let [decode, rounds] = [&exported[0], &exported[1]];
-    assert_eq!((decode.0.as_str(), decode.1.len()), ("surface_decode", 7));
+    assert_eq!((decode.0.as_str(), decode.1.len()), ("surface_decode", 8));
     assert_eq!((rounds.0.as_str(), &rounds.1), ("surface_decode_rounds", &decode.1));
     assert_eq!(functions(HEADER, "\nuint64_t ", in_rust), exported, "the header");
     assert_eq!(functions(CRATE, "pub fn ", str::to_string), exported, "the crate");
+}
+
+/// Open bytes stand right after the marks in every call but the torus builder, filled where the marks
+/// are.
+#[test]
+fn open_bytes_after_the_marks() {
+    for (name, parameters) in functions(HEADER, "\nuint64_t ", in_rust) {
+        let marks = parameters.iter().position(|text| text.starts_with("marks: ")).expect("marks");
+        let open = parameters.get(marks + 1).map(String::as_str);
+        match name.as_str() {
+            "surface_torus" => assert_eq!(open, None),
+            _ => assert_eq!(
+                open,
+                Some(parameters[marks].replace("marks", "open").as_str()),
+                "{name}"
+            ),
+        }
+    }
 }

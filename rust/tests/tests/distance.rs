@@ -3,7 +3,7 @@
 use reference::Random;
 use reference::board::{Board, size};
 use reference::distance::by_search;
-use reference::generators::{Kind, crowd, cycle, path};
+use reference::generators::{Kind, crowd, cycle, open_board, opened, path};
 use reference::torus::torus;
 use table_tests::{agrees, library};
 
@@ -24,6 +24,22 @@ fn fewest_of_all_sets() {
     let mut tried = [0; 2];
     while tried.iter().sum::<usize>() < 3000 {
         let board = Kind::ALL[random.below(Kind::ALL.len())].board(&mut random);
+        if board.edges() <= 12 {
+            let fewest = by_search(&board);
+            assert_eq!(shown_distance(&board), fewest, "{board:?}");
+            tried[usize::from(fewest.is_some())] += 1;
+        }
+    }
+    assert!(tried.iter().all(|&count| count > 500), "{tried:?}");
+}
+
+/// Loops in the wider sense, on boards with open vertices.
+#[test]
+fn fewest_of_all_sets_with_open_vertices() {
+    let mut random = Random::new(177);
+    let mut tried = [0; 2];
+    while tried.iter().sum::<usize>() < 3000 {
+        let board = open_board(&mut random);
         if board.edges() <= 12 {
             let fewest = by_search(&board);
             assert_eq!(shown_distance(&board), fewest, "{board:?}");
@@ -56,5 +72,11 @@ fn large_boards() {
         assert!(fewest > Some(1) && unmarked > Some(1), "{fewest:?}, {unmarked:?}");
         board.marks[edges - 1] = 2;
         assert_eq!(agrees::distance(&board), Ok(Some(1)));
+    }
+    for (vertices, edges) in [(1024, 4096), (64, 4096), (1024, 1100), (1024, 700)] {
+        let drawn = crowd(&mut random, vertices, edges);
+        let few = random.set_of_size(vertices, 2);
+        agrees::distance(&Board { open: few, ..drawn.clone() }).expect("a board");
+        agrees::distance(&opened(&mut random, drawn)).expect("a board");
     }
 }

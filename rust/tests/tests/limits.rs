@@ -77,6 +77,20 @@ fn most_edges() {
     }
 }
 
+/// The same with one open vertex, and with about a third of them open.
+#[test]
+fn most_edges_with_open_vertices() {
+    let mut random = Random::new(109);
+    for vertices in [3, 50, 1024] {
+        for open in [random.set_of_size(vertices, 1), random.set(vertices, 300)] {
+            let board = Board { open, ..crowd(&mut random, vertices, 4096) };
+            let syndrome = board.syndrome(&random.set(4096, 100));
+            let loss = random.set(4096, 20);
+            decoded(&Sheet { board, syndrome, loss });
+        }
+    }
+}
+
 /// All on one vertex. Two are lost, the first and the last, and nothing grows.
 #[test]
 fn most_loop_edges_on_one_vertex() {

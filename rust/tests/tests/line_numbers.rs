@@ -6,20 +6,22 @@
 use std::ops::RangeInclusive;
 
 use reference::board::{Board, EDGE_LIMIT, Sheet, VERTEX_LIMIT};
-use reference::generators::{Kind, crowd, sheet};
+use reference::generators::{Kind, crowd, opened, sheet};
 use reference::text::TEXT_LIMIT;
 use reference::{Random, damage};
 use table::Refusal;
 use table_tests::agrees;
 
 /// The lines of a text with every kind of line, one of them of a loop edge.
-const LINES: [&str; 12] = [
+const LINES: [&str; 14] = [
     "V\t12",
     "E\t0\t11\t0",
     "E\t10\t2\t3",
     "E\t2\t10\t3",
     "E\t7\t7\t1",
     "E\t9\t0\t2",
+    "O\t3",
+    "O\t9",
     "S\t0",
     "S\t7",
     "S\t10",
@@ -33,7 +35,7 @@ type Change = fn(&str) -> String;
 
 /// What makes a line of any kind malformed.
 const BREAKS: [(&str, Change); 18] = [
-    ("another letter", |line| line.replacen(['V', 'E', 'S', 'X'], "C", 1)),
+    ("another letter", |line| line.replacen(['V', 'E', 'O', 'S', 'X'], "C", 1)),
     ("a small letter", str::to_lowercase),
     ("no letter", |line| line[1..].to_string()),
     ("the letter alone", |line| line[..1].to_string()),
@@ -55,8 +57,9 @@ const BREAKS: [(&str, Change); 18] = [
 
 /// Lines that read by themselves: the number of the line that one replaces, and that of the first
 /// malformed line then, which is this one or the next.
-const MISPLACED: [(usize, &str, usize); 34] = [
+const MISPLACED: [(usize, &str, usize); 51] = [
     (1, "E\t0\t1\t0", 1),
+    (1, "O\t0", 1),
     (1, "S\t0", 1),
     (1, "X\t0", 1),
     (1, "V\t0", 1),
@@ -64,32 +67,48 @@ const MISPLACED: [(usize, &str, usize); 34] = [
     (1, "V\t11", 2),
     (2, "V\t12", 2),
     (5, "V\t12", 5),
-    (8, "V\t12", 8),
-    (12, "V\t12", 12),
+    (7, "V\t12", 7),
+    (10, "V\t12", 10),
+    (14, "V\t12", 14),
     (4, "E\t12\t12\t3", 4),
     (4, "E\t2\t2\t4", 4),
     (4, "E\t12\t10\t3", 4),
     (4, "E\t2\t12\t3", 4),
     (4, "E\t2\t10\t4", 4),
+    (2, "O\t0", 3),
+    (6, "O\t2", 14),
+    (6, "O\t3", 7),
+    (7, "O\t9", 8),
+    (7, "O\t0", 9),
+    (7, "O\t12", 7),
+    (8, "O\t3", 8),
+    (8, "O\t2", 8),
+    (8, "O\t12", 8),
+    (8, "O\t7", 10),
+    (8, "O\t10", 11),
+    (8, "E\t0\t1\t0", 8),
+    (8, "X\t0", 9),
+    (9, "O\t10", 11),
+    (10, "O\t11", 10),
+    (12, "O\t11", 12),
     (2, "S\t0", 3),
     (4, "S\t0", 5),
     (4, "X\t1", 5),
-    (6, "X\t0", 7),
-    (6, "S\t0", 7),
-    (8, "S\t0", 8),
-    (8, "S\t12", 8),
-    (9, "S\t6", 9),
-    (8, "S\t10", 9),
-    (8, "S\t11", 9),
-    (8, "E\t0\t1\t0", 8),
-    (8, "X\t0", 9),
-    (9, "X\t1", 10),
-    (11, "X\t1", 11),
-    (11, "X\t0", 11),
-    (11, "X\t5", 11),
-    (11, "X\t4", 12),
-    (12, "S\t11", 12),
-    (12, "E\t0\t1\t0", 12),
+    (7, "S\t3", 8),
+    (9, "S\t3", 9),
+    (10, "S\t9", 10),
+    (10, "S\t0", 10),
+    (10, "S\t12", 10),
+    (11, "S\t6", 11),
+    (10, "S\t10", 11),
+    (10, "S\t11", 11),
+    (10, "X\t0", 11),
+    (11, "X\t1", 12),
+    (13, "X\t1", 13),
+    (13, "X\t0", 13),
+    (13, "X\t5", 13),
+    (13, "X\t4", 14),
+    (14, "S\t11", 14),
 ];
 
 /// Reads the text and gives the number of its first malformed line.
@@ -206,7 +225,7 @@ fn one_edge_too_many() {
 
 #[test]
 fn long_lines() {
-    for good in [0, 1, 6, 9, 12] {
+    for good in [0, 1, 6, 8, 11, 14] {
         let before = text_of(&LINES[..good]);
         for byte in *b"0 7\tE\r" {
             let line = vec![byte; TEXT_LIMIT - before.len() - 1];
@@ -219,7 +238,8 @@ fn long_lines() {
 
 /// The counts of edges, lit vertices and lost edges of the most lines that are a text together and
 /// leave room for one byte more. The shortest edge has 8 bytes, and numbers that rise are the
-/// shortest where none is left out.
+/// shortest where none is left out. An open vertex is not lit, and its line is as long, so that open
+/// vertices give no more lines.
 fn most_lines() -> [usize; 3] {
     let digits = |number: usize| number.to_string().len();
     let mut rising = vec![0];
@@ -267,6 +287,7 @@ fn random_texts_damaged() {
             0 => crowd(&mut random, VERTEX_LIMIT, 2500),
             kind => Kind::ALL[kind % Kind::ALL.len()].board(&mut random),
         };
+        let board = if round % 3 == 0 { opened(&mut random, board) } else { board };
         let sheet = sheet(&mut random, board);
         let text = agrees::write(&sheet).expect("a text within the limit");
         let damage = [damage::anywhere, damage::any_line][round / 20 % 2];

@@ -2,11 +2,11 @@
 
 use reference::board::together;
 use reference::generators::{Kind, sheet};
-use reference::peeling::{forest, peel};
 use reference::torus::torus;
 use reference::{Random, Sheet};
 use table::Verdict;
 use table_tests::agrees;
+use table_tests::loops::closed_set;
 
 const BOARDS: usize = 24_000;
 
@@ -59,7 +59,7 @@ fn every_call_agrees() {
 
 /// Verdicts on a set, on that set with a closed one, and on any set at all.
 fn judge(random: &mut Random, sheet: &Sheet, near: &[u8], seen: &mut Seen) {
-    let closed = closed_set(random, sheet);
+    let closed = closed_set(random, &sheet.board);
     let any = random.set(near.len(), 200);
     for handed in [near.to_vec(), together(near, &closed), any] {
         match agrees::verdict(sheet, &handed) {
@@ -68,22 +68,6 @@ fn judge(random: &mut Random, sheet: &Sheet, near: &[u8], seen: &mut Seen) {
             Ok(Verdict::Wound(_)) => seen.wound += 1,
             Err(_) => {}
         }
-    }
-}
-
-/// A random edge with a way back between its ends; empty where there is no other way back.
-fn closed_set(random: &mut Random, sheet: &Sheet) -> Vec<u8> {
-    let board = &sheet.board;
-    let mut edge = vec![0; board.edges()];
-    if edge.is_empty() {
-        return edge;
-    }
-    let chosen = random.below(edge.len());
-    edge[chosen] = 1;
-    let others = forest(board, |other| other != chosen);
-    match peel(board, &others, &board.syndrome(&edge)) {
-        Some(back) => together(&edge, &back),
-        None => vec![0; board.edges()],
     }
 }
 

@@ -1,48 +1,11 @@
 //! Every refusal at its limit and one past it, and sheets with several rules broken at once.
 
 use reference::board::{Board, Sheet};
-use reference::generators::{Kind, path, sheet, sheet_of_bytes};
+use reference::generators::{Kind, opened, path, sheet, sheet_of_bytes};
 use reference::{Random, text};
 use table::{Refusal, Verdict};
 use table_tests::agrees::{self, Lengths};
-
-fn refused<T: std::fmt::Debug>(answer: Result<T, Refusal>) -> (u8, u64) {
-    let refusal = answer.expect_err("a refusal");
-    (refusal.number(), refusal.place())
-}
-
-fn judged(sheet: &Sheet, handed: &[u8]) -> (u8, u64) {
-    refused(agrees::verdict(sheet, handed))
-}
-
-/// All four calls that are lent a sheet refuse it alike.
-fn sheet_refused(sheet: &Sheet) -> (u8, u64) {
-    let refusal = refused(agrees::decode(sheet));
-    assert_eq!(refused(agrees::decode_rounds(sheet)), refusal);
-    assert_eq!(judged(sheet, &vec![0; sheet.board.edges()]), refusal);
-    assert_eq!(refused(agrees::write(sheet)), refusal);
-    refusal
-}
-
-/// They and the distance refuse the sheet's board alike.
-fn board_refused(sheet: &Sheet) -> (u8, u64) {
-    let refusal = refused(agrees::distance(&sheet.board));
-    assert_eq!(sheet_refused(sheet), refusal);
-    refusal
-}
-
-/// None of the five calls refuses.
-fn none_refuses(sheet: &Sheet) {
-    agrees::decode(sheet).expect("decoding");
-    agrees::decode_rounds(sheet).expect("decoding in rounds");
-    assert!(agrees::verdict(sheet, &vec![0; sheet.board.edges()]).is_ok(), "the verdict");
-    agrees::distance(&sheet.board).expect("distance");
-    agrees::write(sheet).expect("writing");
-}
-
-fn blank(board: Board) -> Sheet {
-    Sheet::new(board, &[], &[])
-}
+use table_tests::refused::{blank, board_refused, judged, none_refuses, refused, sheet_refused};
 
 #[test]
 fn number_1() {
@@ -90,6 +53,9 @@ fn number_3() {
         let mut syndrome = sheet.clone();
         syndrome.syndrome.resize(wrong, 0);
         assert_eq!(sheet_refused(&syndrome), (3, 0));
+        let mut open = sheet.clone();
+        open.board.open.resize(wrong, 0);
+        assert_eq!(board_refused(&open), (3, 0));
     }
 }
 
@@ -177,13 +143,14 @@ fn number_11() {
 #[test]
 fn reader_lengths() {
     let right = Lengths::RIGHT;
-    for (past, by) in [(0, 1), (0, 2), (1, 1), (2, 1), (3, 1)] {
+    for (past, by) in [(0, 1), (0, 2), (1, 1), (2, 1), (3, 1), (4, 1)] {
         for longer in [false, true] {
             let mut lengths = right;
             let length = match past {
                 0 => &mut lengths.ends,
                 1 => &mut lengths.marks,
                 2 => &mut lengths.syndrome,
+                3 => &mut lengths.open,
                 _ => &mut lengths.loss,
             };
             *length = if longer { *length + by } else { *length - by };
@@ -210,7 +177,16 @@ fn numbers_12_and_14() {
     assert_eq!(refused(agrees::read(&text::write(&larger))), (12, 0));
     assert_eq!(refused(agrees::read(&vec![b'\n'; 65_536])), (13, 1));
     assert_eq!(refused(agrees::read(&vec![b'\n'; 65_537])), (12, 0));
-    let small = Sheet::new(path(3), &[0, 2], &[1]);
+    // The line of an open vertex counts like any other: 4 bytes for vertex 5, 5 for vertex 15.
+    for (vertex, fits) in [(5, true), (15, false)] {
+        let mut sheet = sheet_of_bytes(65_532);
+        sheet.board.open[vertex] = 1;
+        match agrees::write(&sheet) {
+            Ok(text) => assert_eq!((text.len(), agrees::read(&text)), (65_536, Ok(sheet))),
+            Err(refusal) => assert!(!fits && refusal == Refusal::TextLength, "{refusal:?}"),
+        }
+    }
+    let small = Sheet::new(path(3).with_open(&[1]), &[0, 2], &[1]);
     let bytes = text::write(&small).len();
     agrees::write_with(&small, bytes).expect("a buffer of the text's length");
     for buffer in 0..bytes {
@@ -218,10 +194,15 @@ fn numbers_12_and_14() {
     }
 }
 
-/// A sheet that breaks every rule of a decoder, mended from the smallest number on.
+/// A sheet that breaks every rule of a decoder, mended from the first test on.
 #[test]
 fn numbers_in_their_order() {
-    let board = Board { vertices: 1025, ends: vec![0, 1, 2, 2, 3, 3, 4], marks: vec![0, 4, 5, 0] };
+    let board = Board {
+        vertices: 1025,
+        ends: vec![0, 1, 2, 2, 3, 3, 4],
+        marks: vec![0, 4, 5, 0],
+        open: vec![0, 1, 2],
+    };
     let mut sheet = Sheet { board, syndrome: vec![0, 2, 2], loss: vec![0, 2, 3, 0] };
     assert_eq!(sheet_refused(&sheet), (1, 0));
     sheet.board.vertices = 4;
@@ -229,8 +210,11 @@ fn numbers_in_their_order() {
     sheet.board.ends.push(4);
     assert_eq!(sheet_refused(&sheet), (3, 0));
     sheet.syndrome.push(0);
+    assert_eq!(sheet_refused(&sheet), (3, 0), "the open bytes");
+    sheet.board.open.push(0);
     assert_eq!(sheet_refused(&sheet), (4, 3));
     sheet.board.vertices = 5;
+    sheet.board.open.push(0);
     sheet.syndrome.push(0);
     assert_eq!(sheet_refused(&sheet), (6, 1));
     sheet.board.marks = vec![0, 3, 3, 0];
@@ -238,6 +222,10 @@ fn numbers_in_their_order() {
     sheet.syndrome[1..].copy_from_slice(&[1, 0, 0, 0]);
     assert_eq!(sheet_refused(&sheet), (8, 1));
     sheet.loss = vec![0, 1, 1, 0];
+    assert_eq!(sheet_refused(&sheet), (16, 2));
+    sheet.board.open[2] = 0;
+    assert_eq!(sheet_refused(&sheet), (17, 1));
+    sheet.board.open[1] = 0;
     assert_eq!(refused(agrees::decode(&sheet)), (10, 0));
     assert_eq!(refused(agrees::decode_rounds(&sheet)), (10, 0));
     sheet.syndrome[0] = 1;
@@ -250,7 +238,7 @@ fn break_a_rule(random: &mut Random, sheet: &mut Sheet) {
     let vertices = sheet.board.vertices.clamp(1, 1024);
     let edge = random.below(edges);
     let vertex = random.below(vertices);
-    match random.below(10) {
+    match random.below(13) {
         0 => sheet.board.vertices = [0, 1025, vertices + 1, vertices - 1][random.below(4)],
         1 => sheet.board.ends.truncate(2 * edge + 1),
         2 => sheet.board.marks.push(0),
@@ -260,6 +248,12 @@ fn break_a_rule(random: &mut Random, sheet: &mut Sheet) {
         6 => put(&mut sheet.board.marks, edge, random.below(8) as u8),
         7 => put(&mut sheet.syndrome, vertex, random.below(4) as u8),
         8 => put(&mut sheet.loss, edge, random.below(4) as u8),
+        9 => put(&mut sheet.board.open, vertex, random.below(4) as u8),
+        10 => {
+            put(&mut sheet.board.open, vertex, 1);
+            put(&mut sheet.syndrome, vertex, 1);
+        }
+        11 => sheet.board.open.truncate(vertex),
         _ => {
             if let Some([a, b]) = sheet.board.ends.chunks_exact_mut(2).nth(edge) {
                 *b = *a;
@@ -277,9 +271,12 @@ fn put<T>(buffer: &mut [T], at: usize, value: T) {
 #[test]
 fn several_rules_broken() {
     let mut random = Random::new(110);
-    let mut seen = [0; 15];
+    let mut seen = [0; 19];
     for round in 0..20_000 {
-        let board = Kind::ALL[round % Kind::ALL.len()].board(&mut random);
+        let mut board = Kind::ALL[round % Kind::ALL.len()].board(&mut random);
+        if random.chance(300) {
+            board = opened(&mut random, board);
+        }
         let mut sheet = sheet(&mut random, board);
         for _ in 0..random.from_to(1, 3) {
             break_a_rule(&mut random, &mut sheet);
@@ -302,8 +299,8 @@ fn several_rules_broken() {
         }
     }
     println!("refusals by number: {seen:?}");
-    for number in [1, 2, 3, 4, 6, 7, 8, 9, 10, 14] {
+    for number in [1, 2, 3, 4, 6, 7, 8, 9, 10, 14, 16, 17] {
         assert!(seen[number] > 100, "number {number}: {seen:?}");
     }
-    assert_eq!(seen[5], 0, "{seen:?}");
+    assert_eq!((seen[5], seen[15]), (0, 0), "{seen:?}");
 }

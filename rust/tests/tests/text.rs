@@ -1,7 +1,7 @@
 //! Texts: round trips, and damage to each byte and each line.
 
 use reference::board::{Board, Sheet};
-use reference::generators::{Kind, ring, sheet};
+use reference::generators::{Kind, open_board, ring, sheet};
 use reference::{Random, damage, text};
 use table::Refusal;
 use table_tests::agrees;
@@ -9,7 +9,7 @@ use table_tests::agrees;
 /// A small sheet with every kind of line, one of them of a loop edge.
 fn small() -> Sheet {
     let board = Board::new(12, &[(0, 11, 0), (10, 2, 3), (2, 10, 3), (7, 7, 1), (9, 0, 2)]);
-    Sheet::new(board, &[0, 7, 10], &[1, 2, 4])
+    Sheet::new(board.with_open(&[1, 8, 11]), &[0, 7, 10], &[1, 2, 4])
 }
 
 /// Reads all of them, and sees that some are refused and some stand for a sheet.
@@ -29,6 +29,36 @@ fn reading_and_writing_undo_each_other() {
     }
 }
 
+/// The `O` lines of every set of open vertices, with every set of lit ones: a text exactly where they
+/// have no vertex in common.
+#[test]
+fn open_and_lit_vertices() {
+    let board = Board::new(5, &[(0, 4, 1)]);
+    let lines = |letter: char, bits: u32| -> String {
+        (0..5).filter(|v| bits >> v & 1 == 1).map(|v| format!("{letter}\t{v}\n")).collect()
+    };
+    let members = |bits: u32| (0..5).filter(|v| bits >> v & 1 == 1).collect::<Vec<_>>();
+    for open in 0..32_u32 {
+        for lit in 0..32_u32 {
+            let (o, s) = (lines('O', open), lines('S', lit));
+            let text = format!("V\t5\nE\t0\t4\t1\n{o}{s}X\t0\n").into_bytes();
+            let sheet = Sheet::new(board.clone().with_open(&members(open)), &members(lit), &[0]);
+            match members(lit).iter().position(|&v| open >> v & 1 == 1) {
+                None => {
+                    assert_eq!(agrees::write(&sheet).as_ref(), Ok(&text));
+                    assert_eq!(agrees::read(&text), Ok(sheet));
+                }
+                Some(at) => {
+                    let line = 3 + members(open).len() + at;
+                    assert_eq!(agrees::read(&text), Err(Refusal::MalformedLine(line)));
+                    let vertex = members(lit)[at];
+                    assert_eq!(agrees::write(&sheet), Err(Refusal::LitOpen(vertex)));
+                }
+            }
+        }
+    }
+}
+
 #[test]
 fn each_byte_damaged() {
     read_all(&damage::each_byte(&text::write(&small())));
@@ -41,7 +71,7 @@ fn each_line_damaged() {
 
 #[test]
 fn each_byte_of_every_value() {
-    let text = text::write(&Sheet::new(ring(), &[0, 3], &[2]));
+    let text = text::write(&Sheet::new(ring().with_open(&[1]), &[0, 3], &[2]));
     let changed = |at: usize, byte: u8| [&text[..at], &[byte], &text[at + 1..]].concat();
     let texts: Vec<_> =
         (0..text.len()).flat_map(|at| (0..=255).map(move |byte| (at, byte))).collect();
@@ -57,6 +87,12 @@ fn larger_texts_damaged() {
         damage::anywhere(&mut random, &text)
     };
     read_all(&(0..500).map(damaged).collect::<Vec<_>>());
+    let damaged = |round: usize| {
+        let board = open_board(&mut random);
+        let text = text::write(&sheet(&mut random, board));
+        [damage::anywhere, damage::any_line][round % 2](&mut random, &text)
+    };
+    read_all(&(0..2000).map(damaged).collect::<Vec<_>>());
 }
 
 #[test]

@@ -2,19 +2,20 @@
 
 use std::thread;
 
-use reference::generators::{Kind, sheet};
+use reference::generators::{Kind, opened, sheet};
 use reference::torus::torus;
 use reference::{Random, Sheet};
 use table_tests::{agrees, library};
 
 const THREADS: usize = 4;
 
-/// Small sheets of every kind, and tori, whose keys take longer.
+/// Small sheets of every kind, half of them with open vertices, and tori, whose keys take longer.
 fn sheets() -> Vec<Sheet> {
     let mut random = Random::new(141);
     let mut sheets: Vec<Sheet> = (0..2000)
         .map(|round| {
             let board = Kind::ALL[round % Kind::ALL.len()].board(&mut random);
+            let board = if round % 20 < 10 { board } else { opened(&mut random, board) };
             sheet(&mut random, board)
         })
         .collect();
@@ -76,6 +77,10 @@ fn all_calls_at_once() {
                 let side = 1 + round as u32 % 32;
                 let edges = 2 * (side * side) as usize;
                 agrees::torus_with(side, 2 * edges, edges).expect("a side in range");
+                let side = 2 + round as u32 % 30;
+                let edges = (side * side + (side - 1) * (side - 1)) as usize;
+                let vertices = (side * (side + 1)) as usize;
+                agrees::planar_with(side, 2 * edges, edges, vertices).expect("a side in range");
             }
         });
     });

@@ -17,7 +17,7 @@ copy-bytes-requires : tie.Need-copy-bytes-requires
 copy-bytes-requires c κs =
     let counted = c .before .before in
     let answered = counted .before in
-    let start = answered .before .before .before .before .before in
+    let start = answered .before .before .before .before .before .before .before in
     rw (counted .written .ensures) (copy-fits _ (start .args .shown .now) _ _ (answered .measure .ensures))
 
 same-length : tie.Need-same-length

@@ -1,5 +1,5 @@
--- `parts::first_odd` meets its contract: there is a syndrome byte for each vertex, so the parities are those of all vertices.
--- Assumes nothing.
+-- `parts::first_odd` meets its contract: there are an open byte and a syndrome byte for each vertex, so the parities, and what is cleared of
+-- them, are those of all vertices. Assumes nothing.
 use borrow.Author.Needs.{needs}
 use Rattle.parts.proofs.Marking.{first-odd}
 use Rattle.parts.proofs.first_odd.Statement.{statement}
@@ -11,18 +11,28 @@ connect-requires c κs = search needs
 parities-requires : tie.Need-parities-requires
 parities-requires c κs =
     let connected = c .before in
-    rw (connected .before .before .before .pre .bytes .count) (connected .connect .ensures .rooted)
+    rw (connected .before .before .before .before .pre .bytes .count) (connected .connect .ensures .rooted)
+
+clear-open-requires : tie.Need-clear-open-requires
+clear-open-requires c κs =
+    let counted = c .before .before in
+    let connected = counted .before .before in
+    rw (connected .before .before .before .before .pre .open-bytes)
+    (record { rooted = connected .connect .ensures .rooted; long = counted .parities .ensures .long })
 
 first-marked-requires : tie.Need-first-marked-requires
 first-marked-requires c κs = search needs
 
 returns : tie.Need-returns
 returns c =
-    let counted = c .before .before .before in
+    let cleared = c .before .before .before in
+    let counted = cleared .before .before .before in
     let connected = counted .before .before in
-    let start = connected .before .before .before in
-    first-odd (connected .connect .ensures) (rw (start .pre .bytes .count) at (counted .parities .ensures)) (c .first-marked .ensures)
+    let start = connected .before .before .before .before in
+    first-odd (connected .connect .ensures) (rw (start .pre .bytes .count) at (counted .parities .ensures))
+    (rw (start .pre .open-bytes) at (cleared .clear-open .ensures)) (c .first-marked .ensures)
 
 pub first-odd-spec : {M : Type 1} → statement M
 first-odd-spec =
-    tie.close (tie.spec connect-requires parities-requires first-marked-requires returns)
+    tie.close
+    (tie.spec connect-requires parities-requires clear-open-requires first-marked-requires returns)

@@ -3,33 +3,33 @@ use mathlib.Core.Path.{_≡_}
 use native.Mathlib.Omega.{arith}
 use borrow.Author.Needs.{needs}
 use Rattle.model.specs.Board.{vertexLimit, edgeLimit}
-use Rattle.peeling.proofs.PeelLoop.{PeelingFrom, span-room, syndrome-flippable, from-start, from-cuttable, from-next, from-done}
+use Rattle.peeling.proofs.PeelLoop.{PeelingFrom, span-room, ends-flippable, from-start, from-cuttable, from-next, from-done}
 use Rattle.peeling.proofs.peel.Statement.{statement}
 use Rattle.peeling.proofs.peel.Tie as tie
 
 abbrev Inv-loop : tie.InvT-loop
-Inv-loop vertices ends support syndrome correction₀ parent links odd₀ e₀ count₀ correction odd e count =
-    PeelingFrom vertices ends support syndrome parent correction odd e count
+Inv-loop vertices ends support oddEnds correction₀ parent links odd₀ e₀ count₀ correction odd e count =
+    PeelingFrom vertices ends support oddEnds parent correction odd e count
 
 abbrev μ-loop : tie.MeasureT-loop
-μ-loop vertices ends support syndrome correction₀ parent links odd₀ e₀ count₀ correction odd e count = e
+μ-loop vertices ends support oddEnds correction₀ parent links odd₀ e₀ count₀ correction odd e count = e
 
 span-requires : tie.Need-span-requires Inv-loop μ-loop
 span-requires c κs =
     let pre = c .before .before .before .before .before .before .pre in
     span-room vertexLimit edgeLimit (pre .board .vertex-limit) (pre .board .edge-limit) pre
 
-flip-syndrome-requires : tie.Need-flip-syndrome-requires Inv-loop μ-loop
-flip-syndrome-requires c κs =
+flip-ends-requires : tie.Need-flip-ends-requires Inv-loop μ-loop
+flip-ends-requires c κs =
     let s = c .before .before in
     let pre = s .before .before .before .before .before .before .before .pre in
-    syndrome-flippable pre (s .span .ensures) vertexLimit (pre .board .vertex-limit)
+    ends-flippable pre (s .span .ensures) vertexLimit (pre .board .vertex-limit)
 
 loop-holds : tie.Need-loop-holds Inv-loop μ-loop
 loop-holds c =
     let s = c .before .before .before in
     let pre = s .before .before .before .before .before .before .before .pre in
-    from-start pre (s .span .ensures) vertexLimit (pre .board .vertex-limit) (c .flip-syndrome .ensures)
+    from-start pre (s .span .ensures) vertexLimit (pre .board .vertex-limit) (c .flip-ends .ensures)
 
 sub-e : tie.Need-sub-e Inv-loop μ-loop
 sub-e c = search needs
@@ -79,7 +79,7 @@ peel-spec =
     Inv-loop
     μ-loop
     span-requires
-    flip-syndrome-requires
+    flip-ends-requires
     loop-holds
     sub-e
     cast-number

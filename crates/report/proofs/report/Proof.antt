@@ -11,21 +11,21 @@ use Rattle.report.proofs.Readings.{SheetRead, refused-reads, counts-rea
 use Rattle.report.proofs.report.Statement.{statement}
 use Rattle.report.proofs.report.Tie as tie
 
--- The states, from each back to the one before: the begin, the reader's call, both counts known, and the four fronts lent.
+-- The states, from each back to the one before: the begin, the reader's call, both counts known, and the five fronts lent.
 abbrev begun : tie.After-read → tie.Start
-begun c = c .before .before .before .before .before .before
+begun c = c .before .before .before .before .before .before .before
 
 abbrev called : tie.After-loss2 → tie.After-read
-called c = c .before .before .before .before
+called c = c .before .before .before .before .before
 
 abbrev counted : tie.After-put-sheet-arg → tie.After-vertices
-counted c = c .before .before .before .before .before .before
+counted c = c .before .before .before .before .before .before .before
 
 -- what the reader leaves in the arrays
 abbrev left : tie.After-read → Buffers
 left c =
     let last = c .read .last .1 in
-    buffersOf (last .0) (last .1 .0) (last .1 .1 .0) (last .1 .1 .1 .0)
+    buffersOf (last .0) (last .1 .0) (last .1 .1 .0) (last .1 .1 .1 .0) (last .1 .1 .1 .1 .0)
 
 -- once both counts are known, the arrays hold a valid sheet, and its report is the text's
 sheet-read : (c : tie.After-vertices) →
@@ -44,6 +44,9 @@ slice-aggregate-read-3 c = search needs
 
 slice-aggregate-read-4 : tie.Need-slice-aggregate-read-4
 slice-aggregate-read-4 c = search needs
+
+slice-aggregate-read-5 : tie.Need-slice-aggregate-read-5
+slice-aggregate-read-5 c = search needs
 
 read-requires : tie.Need-read-requires
 read-requires c κs = search needs
@@ -76,20 +79,28 @@ slice-aggregate-put-sheet-2 c =
     let known = c .before .before .before in
     sym (length-take-le _ _ (omega (arith, sheet-read known .few-edges)))
 
-array-share-prefix-syndrome : tie.Need-array-share-prefix-syndrome
-array-share-prefix-syndrome c = omega (arith, sheet-read (c .before .before .before) .few-vertices)
+array-share-prefix-opened : tie.Need-array-share-prefix-opened
+array-share-prefix-opened c = omega (arith, sheet-read (c .before .before .before) .few-vertices)
 
 slice-aggregate-put-sheet-3 : tie.Need-slice-aggregate-put-sheet-3
 slice-aggregate-put-sheet-3 c =
     let known = c .before .before .before .before in
     sym (length-take-le _ _ (omega (arith, sheet-read known .few-vertices)))
 
-array-share-prefix-loss : tie.Need-array-share-prefix-loss
-array-share-prefix-loss c = omega (arith, sheet-read (c .before .before .before .before) .few-edges)
+array-share-prefix-syndrome : tie.Need-array-share-prefix-syndrome
+array-share-prefix-syndrome c = omega (arith, sheet-read (c .before .before .before .before) .few-vertices)
 
 slice-aggregate-put-sheet-4 : tie.Need-slice-aggregate-put-sheet-4
 slice-aggregate-put-sheet-4 c =
     let known = c .before .before .before .before .before in
+    sym (length-take-le _ _ (omega (arith, sheet-read known .few-vertices)))
+
+array-share-prefix-loss : tie.Need-array-share-prefix-loss
+array-share-prefix-loss c = omega (arith, sheet-read (c .before .before .before .before .before) .few-edges)
+
+slice-aggregate-put-sheet-5 : tie.Need-slice-aggregate-put-sheet-5
+slice-aggregate-put-sheet-5 c =
+    let known = c .before .before .before .before .before .before in
     sym (length-take-le _ _ (omega (arith, sheet-read known .few-edges)))
 
 put-sheet-requires : tie.Need-put-sheet-requires
@@ -112,6 +123,7 @@ report-spec =
     slice-aggregate-read-2
     slice-aggregate-read-3
     slice-aggregate-read-4
+    slice-aggregate-read-5
     read-requires
     enum-known-n
     put-refusal-requires
@@ -121,10 +133,12 @@ report-spec =
     slice-aggregate-put-sheet
     array-share-prefix-marks
     slice-aggregate-put-sheet-2
-    array-share-prefix-syndrome
+    array-share-prefix-opened
     slice-aggregate-put-sheet-3
-    array-share-prefix-loss
+    array-share-prefix-syndrome
     slice-aggregate-put-sheet-4
+    array-share-prefix-loss
+    slice-aggregate-put-sheet-5
     put-sheet-requires
     returns
     returns-2)

@@ -1,5 +1,6 @@
 use crate::decoding::summary::summary;
 use crate::output;
+use crate::unopened;
 use decoder::decode;
 use model::answers::Decoded;
 ghost use Prim.Native.Nat.{_≤_};
@@ -37,7 +38,18 @@ pub(crate) fn show(
     support: &mut [u8],
     correction: &mut [u8],
 ) {
-    answer(decode(vertices, ends, marks, syndrome, loss, support, correction));
+    let zeros = [0u8; unopened::MOST];
+    let n = unopened::count(vertices);
+    answer(decode(
+        vertices,
+        ends,
+        marks,
+        &zeros[..n],
+        syndrome,
+        loss,
+        support,
+        correction,
+    ));
     output::text(b", support ");
     buffer(support);
     output::text(b", correction ");

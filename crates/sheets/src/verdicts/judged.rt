@@ -1,4 +1,5 @@
 use crate::output;
+use crate::unopened;
 use model::answers::Verdict;
 use verdict::verdict;
 
@@ -26,6 +27,8 @@ pub(crate) fn show(
     loss: &[u8],
     handed: &[u8],
 ) {
-    answer(verdict(vertices, ends, marks, syndrome, loss, handed));
+    let zeros = [0u8; unopened::MOST];
+    let n = unopened::count(vertices);
+    answer(verdict(vertices, ends, marks, &zeros[..n], syndrome, loss, handed));
     output::text(b"\n");
 }

@@ -34,14 +34,14 @@ same-length-3 c = search needs
 same-length-4 : tie.Need-same-length-4
 same-length-4 c = search needs
 
+same-length-5 : tie.Need-same-length-5
+same-length-5 c = search needs
+
 returns : tie.Need-returns
 returns c =
     let met = c .before .before in
-    let answered = met .before .before .before .before .before .before .before .before .before .before in
+    let answered = met .before .before .before .before .before .before .before .before .before .before .before .before in
     read-exported (c .pack .ensures ∙ ap packedReading (sym (met .vertices .given .1))) (answered .read .ensures)
-
-same-length-5 : tie.Need-same-length-5
-same-length-5 c = search needs
 
 same-length-6 : tie.Need-same-length-6
 same-length-6 c = search needs
@@ -52,10 +52,16 @@ same-length-7 c = search needs
 same-length-8 : tie.Need-same-length-8
 same-length-8 c = search needs
 
+same-length-9 : tie.Need-same-length-9
+same-length-9 c = search needs
+
+same-length-10 : tie.Need-same-length-10
+same-length-10 c = search needs
+
 returns-2 : tie.Need-returns-2
 returns-2 c =
     let met = c .before .before in
-    let answered = met .before .before .before .before .before .before .before .before .before .before in
+    let answered = met .before .before .before .before .before .before .before .before .before .before .before .before in
     read-exported (c .pack-refusal .ensures ∙ ap packedReading (sym (met .n .given .1))) (answered .read .ensures)
 
 pub surface-read-spec : {M : Type 1} → statement M
@@ -71,9 +77,11 @@ surface-read-spec =
     same-length-2
     same-length-3
     same-length-4
-    returns
     same-length-5
+    returns
     same-length-6
     same-length-7
     same-length-8
+    same-length-9
+    same-length-10
     returns-2)

@@ -15,12 +15,12 @@ use Rattle.verdict.proofs.verdict.Tie as tie
 
 -- where the call began, and the sheet that it is lent
 abbrev begun : tie.After-check-verdict → tie.Start
-begun c = c .before .before .before .before .before .before
+begun c = c .before .before .before .before .before .before .before
 
 abbrev lent : tie.Start → Sheet
 lent start =
     let a = start .args in
-    sheetOf (boardOf (a .vertices) (a .ends .now) (a .marks .now)) (a .syndrome .now) (a .loss .now)
+    sheetOf (boardOf (a .vertices) (a .ends .now) (a .marks .now) (a .opened .now)) (a .syndrome .now) (a .loss .now)
 
 -- what the tests answer
 tested : (c : tie.After-check-verdict) →

@@ -10,16 +10,22 @@ pub fn changed(change: impl Fn(&mut Sheet)) -> Sheet {
     sheet
 }
 
-/// Changes the vertex count, with as many syndrome bytes.
+/// Changes the vertex count, with as many open and syndrome bytes.
 pub fn of_vertices(sheet: &mut Sheet, vertices: usize) {
     sheet.board.vertices = vertices;
+    sheet.board.open.resize(vertices, 0);
     sheet.syndrome.resize(vertices, 0);
 }
 
 /// Sheets that break every rule from 1, from 2, and so on up to 8, and one that breaks only 10. No
 /// rule has number 5: all but one of the edges are loop edges, to the end.
 pub fn breaking() -> Vec<Sheet> {
-    let board = Board { vertices: 1025, ends: vec![0, 1, 2, 2, 3, 3, 4], marks: vec![0, 4, 5, 0] };
+    let board = Board {
+        vertices: 1025,
+        ends: vec![0, 1, 2, 2, 3, 3, 4],
+        marks: vec![0, 4, 5, 0],
+        open: vec![0; 4],
+    };
     let mut sheet = Sheet { board, syndrome: vec![0, 2, 2], loss: vec![0, 2, 3, 0] };
     let mut sheets = vec![sheet.clone()];
     let mut keep = |change: fn(&mut Sheet)| {

@@ -130,7 +130,7 @@ fn ring_with(name: &str, change: impl Fn(&mut Sheet)) -> String {
 fn counts() -> Vec<String> {
     let sheet = changed(|_| ());
     let zeros = |edges| {
-        let board = Board { vertices: 4, ends: vec![0; 2 * edges], marks: vec![0; edges] };
+        let board = Board::new(4, &vec![(0, 0, 0); edges]);
         Sheet { board, syndrome: vec![1, 0, 0, 1], loss: vec![0; edges] }
     };
     vec![

@@ -17,7 +17,7 @@ pub struct Key {
 /// Decodes a sheet: writes the support of each edge, 0 to 2 half-edges, and a correction byte for
 /// each, 1 where it is in the correction, else 0.
 ///
-/// The correction has the sheet's syndrome.
+/// The correction has the sheet's syndrome. It may end at open vertices, which have none.
 ///
 /// # Errors
 ///
@@ -31,7 +31,7 @@ pub struct Key {
 /// ```
 /// use table::{Board, Key, Refusal, Sheet, decode};
 ///
-/// let board = Board { vertices: 4, ends: &[0, 1, 1, 2, 2, 3], marks: &[0; 3] };
+/// let board = Board { vertices: 4, ends: &[0, 1, 1, 2, 2, 3], marks: &[0; 3], open: &[0; 4] };
 /// let (mut support, mut correction) = ([9; 3], [9; 3]);
 ///
 /// let pair = Sheet { board, syndrome: &[1, 0, 0, 1], loss: &[0; 3] };
@@ -44,11 +44,30 @@ pub struct Key {
 /// assert_eq!(none, Err(Refusal::NoCorrection(0)));
 /// assert_eq!((support, correction), ([2; 3], [1; 3]));
 /// ```
+///
+/// Where vertex 0 is open, the error may have run off the board there. A cluster that holds it is
+/// never odd, so {2} grows no more once it does:
+///
+/// ```
+/// use table::{Board, Key, Refusal, Sheet, decode};
+///
+/// let (ends, open) = (&[0, 1, 1, 2, 2, 3], &[1, 0, 0, 0]);
+/// let board = Board { vertices: 4, ends, marks: &[0; 3], open };
+/// let (mut support, mut correction) = ([9; 3], [9; 3]);
+///
+/// let one = Sheet { board, syndrome: &[0, 0, 1, 0], loss: &[0; 3] };
+/// let key = decode(one, &mut support, &mut correction);
+/// assert_eq!(key, Ok(Key { growths: 4, edges: 2 }));
+/// assert_eq!((support, correction), ([2; 3], [1, 1, 0]));
+///
+/// let lit = Sheet { syndrome: &[1, 0, 1, 0], ..one };
+/// assert_eq!(decode(lit, &mut support, &mut correction), Err(Refusal::LitOpen(0)));
+/// ```
 #[must_use = "a refusal has written nothing"]
 pub fn decode(sheet: Sheet<'_>, support: &mut [u8], correction: &mut [u8]) -> Result<Key, Refusal> {
-    let Sheet { board: Board { vertices, ends, marks }, syndrome, loss } = sheet;
+    let Sheet { board: Board { vertices, ends, marks, open }, syndrome, loss } = sheet;
     let returned =
-        call!(surface_decode(vertices; ends, marks, syndrome, loss; support, correction));
+        call!(surface_decode(vertices; ends, marks, open, syndrome, loss; support, correction));
     unpack_key(returned, marks.len())
 }
 
@@ -61,7 +80,7 @@ fn unpack_key(returned: u64, all: usize) -> Result<Key, Refusal> {
 /// The steps of growth and the correction edges that a returned number stands for, on a board with so
 /// many edges: a decoder makes at most two steps for each edge.
 pub(super) fn unpack_steps(returned: u64, all: usize) -> Result<(usize, usize), Refusal> {
-    match unpack(returned, &[1, 2, 3, 4, 6, 7, 8, 10])? {
+    match unpack(returned, &[1, 2, 3, 4, 6, 7, 8, 16, 17, 10])? {
         (steps, edges) if steps <= 2 * all && edges <= all => Ok((steps, edges)),
         _ => impossible(returned),
     }
@@ -77,6 +96,8 @@ mod tests {
         assert_eq!(unpack_key(0, 0), Ok(Key { growths: 0, edges: 0 }));
         assert_eq!(unpack_key(6 << 8 | 3 << 40, 3), Ok(Key { growths: 6, edges: 3 }));
         assert_eq!(unpack_key(10 | 5 << 8, 3), Err(Refusal::NoCorrection(5)));
+        assert_eq!(unpack_key(16 | 5 << 8, 3), Err(Refusal::OpenByte(5)));
+        assert_eq!(unpack_key(17 | 5 << 8, 3), Err(Refusal::LitOpen(5)));
     }
 
     #[test]

@@ -39,7 +39,8 @@ pub struct RoundsKey {
 /// ```
 /// use table::{Board, Key, Refusal, RoundsKey, Sheet, decode, decode_rounds};
 ///
-/// let board = Board { vertices: 5, ends: &[0, 1, 1, 2, 2, 3, 3, 4], marks: &[0; 4] };
+/// let ends = &[0, 1, 1, 2, 2, 3, 3, 4];
+/// let board = Board { vertices: 5, ends, marks: &[0; 4], open: &[0; 5] };
 /// let (mut support, mut correction) = ([9; 4], [9; 4]);
 ///
 /// let pair = Sheet { board, syndrome: &[1, 0, 0, 1, 0], loss: &[0; 4] };
@@ -56,15 +57,31 @@ pub struct RoundsKey {
 /// assert_eq!(none, Err(Refusal::NoCorrection(0)));
 /// assert_eq!((support, correction), ([2, 2, 2, 0], [1, 1, 1, 0]));
 /// ```
+///
+/// With vertex 4 open, {3} reaches it after 2 rounds and is odd no longer, while {0} grows on, and meets
+/// that cluster after 4:
+///
+/// ```
+/// use table::{Board, RoundsKey, Sheet, decode_rounds};
+///
+/// let (ends, open) = (&[0, 1, 1, 2, 2, 3, 3, 4], &[0, 0, 0, 0, 1]);
+/// let board = Board { vertices: 5, ends, marks: &[0; 4], open };
+/// let (mut support, mut correction) = ([9; 4], [9; 4]);
+/// let pair = Sheet { board, syndrome: &[1, 0, 0, 1, 0], loss: &[0; 4] };
+/// let key = decode_rounds(pair, &mut support, &mut correction);
+/// assert_eq!(key, Ok(RoundsKey { rounds: 4, edges: 3 }));
+/// assert_eq!((support, correction), ([2; 4], [1, 1, 1, 0]));
+/// ```
 #[must_use = "a refusal has written nothing"]
 pub fn decode_rounds(
     sheet: Sheet<'_>,
     support: &mut [u8],
     correction: &mut [u8],
 ) -> Result<RoundsKey, Refusal> {
-    let Sheet { board: Board { vertices, ends, marks }, syndrome, loss } = sheet;
-    let returned =
-        call!(surface_decode_rounds(vertices; ends, marks, syndrome, loss; support, correction));
+    let Sheet { board: Board { vertices, ends, marks, open }, syndrome, loss } = sheet;
+    let returned = call!(
+        surface_decode_rounds(vertices; ends, marks, open, syndrome, loss; support, correction)
+    );
     unpack_key(returned, marks.len())
 }
 
@@ -84,6 +101,8 @@ mod tests {
         assert_eq!(unpack_key(0, 0), Ok(RoundsKey { rounds: 0, edges: 0 }));
         assert_eq!(unpack_key(6 << 8 | 3 << 40, 3), Ok(RoundsKey { rounds: 6, edges: 3 }));
         assert_eq!(unpack_key(10 | 5 << 8, 3), Err(Refusal::NoCorrection(5)));
+        assert_eq!(unpack_key(16 | 5 << 8, 3), Err(Refusal::OpenByte(5)));
+        assert_eq!(unpack_key(17 | 5 << 8, 3), Err(Refusal::LitOpen(5)));
     }
 
     #[test]

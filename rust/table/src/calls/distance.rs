@@ -17,7 +17,7 @@ use crate::{Board, Refusal};
 /// use table::{Board, distance};
 ///
 /// let mut shown = [9; 2];
-/// let pair = Board { vertices: 2, ends: &[0, 1, 0, 1], marks: &[0, 1] };
+/// let pair = Board { vertices: 2, ends: &[0, 1, 0, 1], marks: &[0, 1], open: &[0, 0] };
 /// assert_eq!(distance(pair, &mut shown), Ok(Some(2)));
 /// assert_eq!(shown, [1, 1]);
 ///
@@ -32,21 +32,34 @@ use crate::{Board, Refusal};
 /// use table::{Board, distance};
 ///
 /// let mut shown = [9; 3];
-/// let board = Board { vertices: 2, ends: &[0, 1, 1, 1, 0, 1], marks: &[0, 2, 1] };
+/// let ends = &[0, 1, 1, 1, 0, 1];
+/// let board = Board { vertices: 2, ends, marks: &[0, 2, 1], open: &[0, 0] };
 /// assert_eq!(distance(board, &mut shown), Ok(Some(1)));
 /// assert_eq!(shown, [0, 1, 0]);
 /// ```
+///
+/// A way from one open vertex to another is closed too:
+///
+/// ```
+/// use table::{Board, distance};
+///
+/// let mut shown = [9; 2];
+/// let path = Board { vertices: 3, ends: &[0, 1, 1, 2], marks: &[1, 0], open: &[1, 0, 1] };
+/// assert_eq!(distance(path, &mut shown), Ok(Some(2)));
+/// assert_eq!(shown, [1, 1]);
+/// assert_eq!(distance(Board { open: &[1, 0, 0], ..path }, &mut shown), Ok(None));
+/// ```
 #[must_use = "a refusal has written nothing"]
 pub fn distance(board: Board<'_>, shown: &mut [u8]) -> Result<Option<usize>, Refusal> {
-    let Board { vertices, ends, marks } = board;
-    let returned = call!(surface_distance(vertices; ends, marks; shown));
+    let Board { vertices, ends, marks, open } = board;
+    let returned = call!(surface_distance(vertices; ends, marks, open; shown));
     unpack_distance(returned, marks.len())
 }
 
 /// The distance of a board with so many edges that a returned number stands for. A winding loop has
 /// an edge at least.
 fn unpack_distance(returned: u64, edges: usize) -> Result<Option<usize>, Refusal> {
-    match unpack(returned, &[1, 2, 3, 4, 6])? {
+    match unpack(returned, &[1, 2, 3, 4, 6, 16])? {
         (0, 0) => Ok(None),
         (fewest @ 1.., 1) if fewest <= edges => Ok(Some(fewest)),
         _ => impossible(returned),
@@ -63,6 +76,7 @@ mod tests {
         assert_eq!(unpack_distance(0, 0), Ok(None));
         assert_eq!(unpack_distance(4 << 8 | 1 << 40, 4), Ok(Some(4)));
         assert_eq!(unpack_distance(6 | 4095 << 8, 4), Err(Refusal::MarkRange(4095)));
+        assert_eq!(unpack_distance(16 | 1023 << 8, 4), Err(Refusal::OpenByte(1023)));
     }
 
     #[test]
@@ -81,6 +95,12 @@ mod tests {
     #[should_panic(expected = "returned 0x10000000500, which this call never answers")]
     fn edge_too_many() {
         let _ = unpack_distance(5 << 8 | 1 << 40, 4);
+    }
+
+    #[test]
+    #[should_panic(expected = "returned 0x11, which this call never answers")]
+    fn number_of_a_syndrome() {
+        let _ = unpack_distance(17, 4);
     }
 
     #[test]

@@ -8,14 +8,15 @@ use crate::{EDGES, Refusal, VERTICES};
 #[derive(Clone, Copy, Debug, PartialEq, Eq)]
 #[must_use]
 pub struct Counts {
-    /// The vertices, and so the syndrome bytes that were written.
+    /// The vertices, and so the open bytes and the syndrome bytes that were written.
     pub vertices: usize,
     /// The edges, and so the marks, the loss bytes and half the ends that were written.
     pub edges: usize,
 }
 
-/// Reads a text into buffers of exactly twice [`EDGES`] ends, [`EDGES`] marks, [`VERTICES`] syndrome
-/// bytes and [`EDGES`] loss bytes. Entries past the board's counts are left as they were.
+/// Reads a text into buffers of exactly twice [`EDGES`] ends, [`EDGES`] marks, [`VERTICES`] open bytes,
+/// [`VERTICES`] syndrome bytes and [`EDGES`] loss bytes. Entries past the board's counts are left as
+/// they were.
 ///
 /// # Errors
 ///
@@ -26,28 +27,32 @@ pub struct Counts {
 /// ```
 /// use table::{Counts, EDGES, Refusal, VERTICES, read};
 ///
-/// let (mut ends, mut marks) = ([7; 2 * EDGES], [7; EDGES]);
+/// let (mut ends, mut marks, mut open) = ([7; 2 * EDGES], [7; EDGES], [7; VERTICES]);
 /// let (mut syndrome, mut loss) = ([7; VERTICES], [7; EDGES]);
-/// let text = b"V\t3\nE\t0\t1\t0\nE\t1\t2\t3\nS\t0\nS\t2\nX\t1\n";
-/// let counts = read(text, &mut ends, &mut marks, &mut syndrome, &mut loss);
+/// let text = b"V\t3\nE\t0\t1\t0\nE\t1\t2\t3\nO\t1\nS\t0\nS\t2\nX\t1\n";
+/// let counts = read(text, &mut ends, &mut marks, &mut open, &mut syndrome, &mut loss);
 /// assert_eq!(counts, Ok(Counts { vertices: 3, edges: 2 }));
 /// assert_eq!(ends[..5], [0, 1, 1, 2, 7]);
 /// assert_eq!(marks[..3], [0, 3, 7]);
+/// assert_eq!(open[..4], [0, 1, 0, 7]);
 /// assert_eq!(syndrome[..4], [1, 0, 1, 7]);
 /// assert_eq!(loss[..3], [0, 1, 7]);
 ///
-/// let refused = read(b"V\t3\nS\t3\n", &mut ends, &mut marks, &mut syndrome, &mut loss);
-/// assert_eq!(refused, Err(Refusal::MalformedLine(2)));
+/// // Vertex 1 is open, so it can't be lit.
+/// let text = b"V\t3\nO\t1\nS\t1\n";
+/// let refused = read(text, &mut ends, &mut marks, &mut open, &mut syndrome, &mut loss);
+/// assert_eq!(refused, Err(Refusal::MalformedLine(3)));
 /// ```
 #[must_use = "a refusal has written nothing"]
 pub fn read(
     text: &[u8],
     ends: &mut [u16],
     marks: &mut [u8],
+    open: &mut [u8],
     syndrome: &mut [u8],
     loss: &mut [u8],
 ) -> Result<Counts, Refusal> {
-    let returned = call!(surface_read(; text; ends, marks, syndrome, loss));
+    let returned = call!(surface_read(; text; ends, marks, open, syndrome, loss));
     unpack_counts(returned)
 }
 

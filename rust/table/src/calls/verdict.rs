@@ -8,7 +8,7 @@ use crate::{Board, Refusal, Sheet};
 #[derive(Clone, Copy, Debug, PartialEq, Eq)]
 #[must_use]
 pub enum Verdict {
-    /// Its syndrome differs from the one put; this is the smallest vertex where it does.
+    /// Its syndrome differs from the one put; this is the smallest vertex where it does, and not open.
     Off(usize),
     /// Together with the correction the set doesn't wind.
     Same,
@@ -29,7 +29,8 @@ pub enum Verdict {
 /// ```
 /// use table::{Board, Refusal, Sheet, Verdict, verdict};
 ///
-/// let board = Board { vertices: 4, ends: &[0, 1, 1, 2, 2, 3, 3, 0], marks: &[0, 0, 0, 1] };
+/// let ends = &[0, 1, 1, 2, 2, 3, 3, 0];
+/// let board = Board { vertices: 4, ends, marks: &[0, 0, 0, 1], open: &[0; 4] };
 /// let sheet = Sheet { board, syndrome: &[1, 0, 0, 1], loss: &[0; 4] };
 /// assert_eq!(verdict(sheet, &[0, 0, 0, 1]), Ok(Verdict::Same));
 /// assert_eq!(verdict(sheet, &[1, 1, 1, 0]), Ok(Verdict::Wound(1)));
@@ -38,16 +39,30 @@ pub enum Verdict {
 /// let odd = Sheet { syndrome: &[0, 0, 1, 0], ..sheet };
 /// assert_eq!(verdict(odd, &[0; 4]), Err(Refusal::NoCorrection(0)));
 /// ```
+///
+/// Both ends of a path are open, and its first edge crosses a line. Which way the error ran off the
+/// board shows, though either way has the syndrome:
+///
+/// ```
+/// use table::{Board, Sheet, Verdict, verdict};
+///
+/// let (ends, open) = (&[0, 1, 1, 2, 2, 3], &[1, 0, 0, 1]);
+/// let board = Board { vertices: 4, ends, marks: &[1, 0, 0], open };
+/// let sheet = Sheet { board, syndrome: &[0, 1, 0, 0], loss: &[0; 3] };
+/// assert_eq!(verdict(sheet, &[1, 0, 0]), Ok(Verdict::Same));
+/// assert_eq!(verdict(sheet, &[0, 1, 1]), Ok(Verdict::Wound(1)));
+/// assert_eq!(verdict(sheet, &[0, 0, 1]), Ok(Verdict::Off(1)));
+/// ```
 #[must_use = "nothing is written: the answer is all there is"]
 pub fn verdict(sheet: Sheet<'_>, handed: &[u8]) -> Result<Verdict, Refusal> {
-    let Sheet { board: Board { vertices, ends, marks }, syndrome, loss } = sheet;
-    let returned = call!(surface_verdict(vertices; ends, marks, syndrome, loss, handed;));
+    let Sheet { board: Board { vertices, ends, marks, open }, syndrome, loss } = sheet;
+    let returned = call!(surface_verdict(vertices; ends, marks, open, syndrome, loss, handed;));
     unpack_verdict(returned, vertices)
 }
 
 /// The verdict on a board with so many vertices that a returned number stands for.
 fn unpack_verdict(returned: u64, vertices: usize) -> Result<Verdict, Refusal> {
-    match unpack(returned, &[1, 2, 3, 4, 6, 7, 8, 9, 10])? {
+    match unpack(returned, &[1, 2, 3, 4, 6, 7, 8, 9, 16, 17, 10])? {
         (1, vertex) if vertex < vertices => Ok(Verdict::Off(vertex)),
         (2, 0) => Ok(Verdict::Same),
         (3, marks @ 1..=3) => Ok(Verdict::Wound(marks as u8)),
@@ -66,6 +81,8 @@ mod tests {
         assert_eq!(unpack_verdict(2 << 8, 7), Ok(Verdict::Same));
         assert_eq!(unpack_verdict(3 << 8 | 3 << 40, 7), Ok(Verdict::Wound(3)));
         assert_eq!(unpack_verdict(9 | 5 << 8, 7), Err(Refusal::HandedByte(5)));
+        assert_eq!(unpack_verdict(16 | 5 << 8, 7), Err(Refusal::OpenByte(5)));
+        assert_eq!(unpack_verdict(17 | 5 << 8, 7), Err(Refusal::LitOpen(5)));
     }
 
     #[test]

@@ -18,24 +18,24 @@ use crate::{Board, Refusal, Sheet};
 /// ```
 /// use table::{Board, Refusal, Sheet, write};
 ///
-/// let board = Board { vertices: 2, ends: &[0, 1], marks: &[2] };
-/// let sheet = Sheet { board, syndrome: &[1, 1], loss: &[1] };
+/// let board = Board { vertices: 3, ends: &[0, 1], marks: &[2], open: &[0, 0, 1] };
+/// let sheet = Sheet { board, syndrome: &[1, 1, 0], loss: &[1] };
 /// let mut text = [b'.'; 32];
-/// assert_eq!(write(sheet, &mut text), Ok(24));
-/// assert_eq!(&text, b"V\t2\nE\t0\t1\t2\nS\t0\nS\t1\nX\t0\n........");
+/// assert_eq!(write(sheet, &mut text), Ok(28));
+/// assert_eq!(&text, b"V\t3\nE\t0\t1\t2\nO\t2\nS\t0\nS\t1\nX\t0\n....");
 ///
-/// assert_eq!(write(sheet, &mut text[..23]), Err(Refusal::TextBuffer));
+/// assert_eq!(write(sheet, &mut text[..27]), Err(Refusal::TextBuffer));
 /// ```
 #[must_use = "a refusal has written nothing"]
 pub fn write(sheet: Sheet<'_>, text: &mut [u8]) -> Result<usize, Refusal> {
-    let Sheet { board: Board { vertices, ends, marks }, syndrome, loss } = sheet;
-    let returned = call!(surface_write(vertices; ends, marks, syndrome, loss; text));
+    let Sheet { board: Board { vertices, ends, marks, open }, syndrome, loss } = sheet;
+    let returned = call!(surface_write(vertices; ends, marks, open, syndrome, loss; text));
     unpack_bytes(returned, text.len())
 }
 
 /// The byte count, within a buffer of this length, that a returned number stands for.
 fn unpack_bytes(returned: u64, length: usize) -> Result<usize, Refusal> {
-    match unpack(returned, &[1, 2, 3, 4, 6, 7, 8, 12, 14])? {
+    match unpack(returned, &[1, 2, 3, 4, 6, 7, 8, 16, 17, 12, 14])? {
         (bytes, 0) if bytes <= length => Ok(bytes),
         _ => impossible(returned),
     }
@@ -50,6 +50,7 @@ mod tests {
     fn each_answer() {
         assert_eq!(unpack_bytes(24 << 8, 24), Ok(24));
         assert_eq!(unpack_bytes(14, 23), Err(Refusal::TextBuffer));
+        assert_eq!(unpack_bytes(17 | 5 << 8, 23), Err(Refusal::LitOpen(5)));
     }
 
     #[test]

@@ -3,14 +3,14 @@ use Prim.Native.Nat.{_-_, _≤_}
 use mathlib.Core.Logic.{⊎-elim}
 use borrow.Author.Needs.{needs}
 use borrow.Author.Tests.{le-leb, lt-leb}
-use Rattle.model.specs.Board.{unmarked}
+use Rattle.model.specs.Board.{plain}
 use Rattle.model.specs.Refusals.{outside}
 use Rattle.board.proofs.Searching.{Passed, passed-none, passed-more, ends-at, ends-nowhere}
 use Rattle.board.proofs.ends.first_outside.Statement.{statement}
 use Rattle.board.proofs.ends.first_outside.Tie as tie
 
 abbrev Inv-loop : tie.InvT-loop
-Inv-loop vertices ends edges e₀ e = (e ≤ edges) × Passed (outside (unmarked vertices 0 ends)) e
+Inv-loop vertices ends edges e₀ e = (e ≤ edges) × Passed (outside (plain vertices 0 ends)) e
 
 abbrev μ-loop : tie.MeasureT-loop
 μ-loop vertices ends edges e₀ e = edges - e

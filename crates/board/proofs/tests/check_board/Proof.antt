@@ -16,8 +16,8 @@ enum-known-refusal c = search needs
 
 returns : tie.Need-returns
 returns c =
-    let a = c .before .before .before .before .before .before .args in
-    sym (board-tests (boardOf (a .vertices) (now (a .ends)) (now (a .marks))) (a .others)
+    let a = c .before .before .before .before .before .before .before .args in
+    sym (board-tests (boardOf (a .vertices) (now (a .ends)) (now (a .marks)) (now (a .opened))) (a .others)
     ∙ refuses _ _ _ (c .before .before .before .check-counts .ensures) (c .before .refusal .given .1))
 
 enum-told : tie.Need-enum-told
@@ -25,15 +25,15 @@ enum-told c = search needs
 
 check-edges-requires : tie.Need-check-edges-requires
 check-edges-requires c κs =
-    let a = c .before .before .before .before .before .args in
-    counts-allow (boardOf (a .vertices) (now (a .ends)) (now (a .marks))) (a .others)
+    let a = c .before .before .before .before .before .before .args in
+    counts-allow (boardOf (a .vertices) (now (a .ends)) (now (a .marks)) (now (a .opened))) (a .others)
     (passed _ _ (c .before .before .check-counts .ensures) (c .enum-told .given .1))
 
 returns-2 : tie.Need-returns-2
 returns-2 c =
-    let a = c .before .before .before .before .before .before .args in
+    let a = c .before .before .before .before .before .before .before .args in
     c .check-edges .ensures
-    ∙ sym (board-tests (boardOf (a .vertices) (now (a .ends)) (now (a .marks))) (a .others)
+    ∙ sym (board-tests (boardOf (a .vertices) (now (a .ends)) (now (a .marks)) (now (a .opened))) (a .others)
     ∙ passes-on _ _ _ (c .before .before .before .check-counts .ensures) (c .before .enum-told .given .1))
 
 pub check-board-spec : {M : Type 1} → statement M

@@ -19,21 +19,21 @@ tree-of-requires : tie.Need-tree-of-requires
 tree-of-requires c κs =
     let met = c .before in
     let chose = met .before .before in
-    let start = chose .before .before .before .before in
-    chosen-rooted _ _ _ _ _ (start .pre) _ (sym (chose .choose .ensures) ∙ ap chosenOf (met .cluster .given .1))
+    let start = chose .before .before .before .before .before in
+    chosen-rooted _ _ _ _ _ _ (start .pre) _ (sym (chose .choose .ensures) ∙ ap chosenOf (met .cluster .given .1))
 
 returns : tie.Need-returns
 returns c =
     let chose = c .before .before in
-    let start = chose .before .before .before .before in
-    follows-none _ _ _ _ _ (start .pre) (sym (chose .choose .ensures) ∙ ap chosenOf (c .enum-told .given .1)) _
+    let start = chose .before .before .before .before .before in
+    follows-none _ _ _ _ _ _ (start .pre) (sym (chose .choose .ensures) ∙ ap chosenOf (c .enum-told .given .1)) _
 
 returns-2 : tie.Need-returns-2
 returns-2 c =
     let met = c .before .before in
     let chose = met .before .before in
-    let start = chose .before .before .before .before in
-    follows-chosen _ _ _ _ _ (start .pre) _ (sym (chose .choose .ensures) ∙ ap chosenOf (met .cluster .given .1)) _ (c .tree-of .ensures)
+    let start = chose .before .before .before .before .before in
+    follows-chosen _ _ _ _ _ _ (start .pre) _ (sym (chose .choose .ensures) ∙ ap chosenOf (met .cluster .given .1)) _ (c .tree-of .ensures)
 
 pub chosen-cluster-spec : {M : Type 1} → statement M
 chosen-cluster-spec = tie.close (tie.spec choose-requires enum-told enum-known-cluster tree-of-requires returns returns-2)

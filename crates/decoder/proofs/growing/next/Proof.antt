@@ -22,8 +22,8 @@ returns c = rw (c .before .enum-told .given .1) (c .chosen-cluster .ensures)
 returns-2 : tie.Need-returns-2
 returns-2 c =
     let told = c .before in
-    let start = told .before .before .before .before .before in
-    rw (told .enum-told2 .given .1) (follows-odd _ _ _ _ _ (start .pre) _ (c .odd-clusters .ensures))
+    let start = told .before .before .before .before .before .before in
+    rw (told .enum-told2 .given .1) (follows-odd _ _ _ _ _ _ (start .pre) _ (c .odd-clusters .ensures))
 
 pub next-spec : {M : Type 1} → statement M
 next-spec = tie.close (tie.spec enum-told chosen-cluster-requires enum-told-2 odd-clusters-requires returns returns-2)

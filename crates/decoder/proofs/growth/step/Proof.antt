@@ -14,14 +14,14 @@ same-length c = search needs
 returns : tie.Need-returns
 returns c =
     let named = c .before in
-    let start = named .before .before .before .before .before .before .before in
+    let start = named .before .before .before .before .before .before .before .before in
     step-over (start .pre) _ _ (named .next .ensures) (not-true _ (c .if1 .taken))
 
 grow-requires : tie.Need-grow-requires
 grow-requires c κs =
     let left = c .before .before .before in
     let named = left .before in
-    let start = named .before .before .before .before .before .before .before in
+    let start = named .before .before .before .before .before .before .before .before in
     step-growable (start .pre) _ _ (named .next .ensures) (not-false _ (left .if1 .left))
 
 same-length-2 : tie.Need-same-length-2
@@ -32,7 +32,7 @@ returns-2 c =
     let grown = c .before .before .before in
     let left = grown .before .before .before .before in
     let named = left .before in
-    let start = named .before .before .before .before .before .before .before in
+    let start = named .before .before .before .before .before .before .before .before in
     step-made (start .pre) _ _ (named .next .ensures) (not-false _ (left .if1 .left)) _ _ (grown .grow .ensures)
 
 pub step-spec : {M : Type 1} → statement M

@@ -1,11 +1,14 @@
--- `key` meets its contract: number 10, or start, run and peel. Assumes nothing.
+-- `key` meets its contract: number 10, or start, run, odd ends and peel. Assumes nothing.
 use borrow.Author.Needs.{needs}
-use Rattle.decoder.proofs.Keying.{searchable, shows-odd, startable, runnable, peelable, keyed}
+use mathlib.Core.Path.{sym}
+use Rattle.decoder.proofs.Keying.{searchable, shows-odd, startable, runnable, rooted-there, markable, front-fits, front-long, peelable, keyed}
 use Rattle.decoder.proofs.key.key.Statement.{statement}
 use Rattle.decoder.proofs.key.key.Tie as tie
 
 first-odd-requires : tie.Need-first-odd-requires
-first-odd-requires c κs = searchable (c .before .before .before .before .before .args .growth) _ _ _ _ _ _ (c .before .before .before .before .before .pre)
+first-odd-requires c κs =
+    let start = c .before .before .before .before .before .before in
+    searchable (start .args .growth) _ _ _ _ _ _ _ (start .pre)
 
 enum-known-v : tie.Need-enum-known-v
 enum-known-v c = search needs
@@ -13,8 +16,8 @@ enum-known-v c = search needs
 returns : tie.Need-returns
 returns c =
     let looked = c .before .before .before in
-    let start = looked .before .before .before .before .before .before in
-    shows-odd (start .args .growth) _ _ _ _ _ _ (start .pre) _ (looked .first-odd .ensures) _ (c .before .v .given .1)
+    let start = looked .before .before .before .before .before .before .before in
+    shows-odd (start .args .growth) _ _ _ _ _ _ _ (start .pre) _ (looked .first-odd .ensures) _ (c .before .v .given .1)
 
 enum-told : tie.Need-enum-told
 enum-told c = search needs
@@ -23,25 +26,64 @@ start-requires : tie.Need-start-requires
 start-requires c κs =
     let told = c .before in
     let looked = told .before .before in
-    let start = looked .before .before .before .before .before .before in
-    startable (start .args .growth) _ _ _ _ _ _ (start .pre) _ (looked .first-odd .ensures) (told .enum-told .given .1)
+    let start = looked .before .before .before .before .before .before .before in
+    startable (start .args .growth) _ _ _ _ _ _ _ (start .pre) _ (looked .first-odd .ensures) (told .enum-told .given .1)
 
 run-requires : tie.Need-run-requires
 run-requires c κs =
     let started = c .before .before .before in
     let told = started .before .before in
     let looked = told .before .before in
-    let start = looked .before .before .before .before .before .before in
-    runnable (start .args .growth) _ _ _ _ _ _ (start .pre) _ (looked .first-odd .ensures) (told .enum-told .given .1) _ _ (started .start .ensures)
+    let start = looked .before .before .before .before .before .before .before in
+    runnable (start .args .growth) _ _ _ _ _ _ _ (start .pre) _ (looked .first-odd .ensures) (told .enum-told .given .1) _ _ (started .start .ensures)
 
-peel-requires : tie.Need-peel-requires
-peel-requires c κs =
+labels-of-requires : tie.Need-labels-of-requires
+labels-of-requires c κs =
     let ran = c .before .before .before .before in
     let started = ran .before .before .before .before in
     let told = started .before .before in
     let looked = told .before .before in
-    let start = looked .before .before .before .before .before .before in
-    peelable (start .args .growth) _ _ _ _ _ _ (start .pre) _ (looked .first-odd .ensures) (told .enum-told .given .1) _ _ (started .start .ensures) _ _ (ran .run .ensures)
+    let start = looked .before .before .before .before .before .before .before in
+    rooted-there (start .args .growth) _ _ _ _ _ _ _ (start .pre) _ (looked .first-odd .ensures) (told .enum-told .given .1) _ _ (started .start .ensures)
+    _ _ (ran .run .ensures)
+
+odd-ends-requires : tie.Need-odd-ends-requires
+odd-ends-requires c κs =
+    let named = c .before in
+    let ran = named .before .before .before .before .before in
+    let started = ran .before .before .before .before in
+    let told = started .before .before in
+    let looked = told .before .before in
+    let start = looked .before .before .before .before .before .before .before in
+    markable (start .args .growth) _ _ _ _ _ _ _ (start .pre) _ (looked .first-odd .ensures) (told .enum-told .given .1) _ _ (started .start .ensures)
+    _ _ (ran .run .ensures) _ (named .labels-of .ensures)
+
+array-share-prefix-lit : tie.Need-array-share-prefix-lit
+array-share-prefix-lit c = search needs
+
+slice-aggregate-peel : tie.Need-slice-aggregate-peel
+slice-aggregate-peel c =
+    let marked = c .before .before in
+    let named = marked .before .before in
+    let ran = named .before .before .before .before .before in
+    let started = ran .before .before .before .before in
+    let told = started .before .before in
+    let looked = told .before .before in
+    let start = looked .before .before .before .before .before .before .before in
+    sym (front-long (start .args .growth) _ _ _ _ _ _ _ (start .pre) _ (looked .first-odd .ensures) (told .enum-told .given .1) _ _ (started .start .ensures)
+    _ _ (ran .run .ensures) _ (named .labels-of .ensures) _ (marked .odd-ends .ensures))
+
+peel-requires : tie.Need-peel-requires
+peel-requires c κs =
+    let marked = c .before .before .before in
+    let named = marked .before .before in
+    let ran = named .before .before .before .before .before in
+    let started = ran .before .before .before .before in
+    let told = started .before .before in
+    let looked = told .before .before in
+    let start = looked .before .before .before .before .before .before .before in
+    peelable (start .args .growth) _ _ _ _ _ _ _ (start .pre) _ (looked .first-odd .ensures) (told .enum-told .given .1) _ _ (started .start .ensures)
+    _ _ (ran .run .ensures) _ (named .labels-of .ensures) _ (marked .odd-ends .ensures)
 
 same-length : tie.Need-same-length
 same-length c = search needs
@@ -52,12 +94,16 @@ same-length-2 c = search needs
 returns-2 : tie.Need-returns-2
 returns-2 c =
     let peeled = c .before .before in
-    let ran = peeled .before .before .before .before .before in
+    let marked = peeled .before .before .before .before in
+    let named = marked .before .before in
+    let ran = named .before .before .before .before .before in
     let started = ran .before .before .before .before in
     let told = started .before .before in
     let looked = told .before .before in
-    let start = looked .before .before .before .before .before .before in
-    keyed (start .args .growth) _ _ _ _ _ _ (start .pre) _ (looked .first-odd .ensures) (told .enum-told .given .1) _ _ (started .start .ensures) _ _ (ran .run .ensures) _ _ (peeled .peel .ensures)
+    let start = looked .before .before .before .before .before .before .before in
+    keyed (start .args .growth) _ _ _ _ _ _ _ (start .pre) _ (looked .first-odd .ensures) (told .enum-told .given .1) _ _ (started .start .ensures)
+    _ _ (ran .run .ensures) _ (named .labels-of .ensures) _ (marked .odd-ends .ensures)
+    _ _ (peeled .peel .ensures)
 
 pub key-spec : {M : Type 1} → statement M
 key-spec =
@@ -69,6 +115,10 @@ key-spec =
     enum-told
     start-requires
     run-requires
+    labels-of-requires
+    odd-ends-requires
+    array-share-prefix-lit
+    slice-aggregate-peel
     peel-requires
     same-length
     same-length-2

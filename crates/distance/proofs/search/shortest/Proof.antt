@@ -3,7 +3,9 @@ use Prim.Native.Nat.{ℕ, _-_, _≤_}
 use mathlib.Core.Path.{_≡_}
 use native.Mathlib.Omega.{arith}
 use borrow.Author.Needs.{needs}
-use lib.ListN.{length-replicate}
+use lib.ListN.{length, length-replicate}
+use Rattle.model.specs.Board.{withoutOpen}
+use Rattle.model.specs.Refusals.{edgesOf}
 use Rattle.model.proofs.EndLaws.{within-limit}
 use Rattle.board.specs.Incidence.{entryCount}
 use Rattle.board.proofs.Validity.{marks-long}
@@ -25,10 +27,14 @@ abbrev μ-loop : tie.MeasureT-loop
 abbrev begin : tie.After-entries Inv-loop μ-loop → tie.Start Inv-loop μ-loop
 begin c = c .before .before .before .before
 
+-- there is a mark for each two ends
+half-as-many : (c : tie.Start Inv-loop μ-loop) → length (c .args .marks .now) ≡ edgesOf (c .args .ends .now)
+half-as-many c = marks-long (withoutOpen (c .args .vertices) (c .args .ends .now) (c .args .marks .now)) (c .pre .0 .inside)
+
 list-edges-requires : tie.Need-list-edges-requires Inv-loop μ-loop
 list-edges-requires c κs =
     let valid = begin c .pre .0 in
-    (rw (marks-long _ valid) at (within-limit (valid .inside)), length-replicate {A = ℕ} entryCount 0)
+    (rw (half-as-many (begin c)) at (within-limit (valid .inside)), length-replicate {A = ℕ} entryCount 0)
 
 loop-holds : tie.Need-loop-holds Inv-loop μ-loop
 loop-holds c = (searched-none (begin (c .before) .pre .1), omega arith)
@@ -44,7 +50,7 @@ improve-requires c κs =
     let valid = begin (listed .before) .pre .0 in
     record {
       valid = padded-valid valid;
-      lists = incidence-marked _ _ _ _ _ _ (marks-long _ valid) (listed .list-edges .ensures);
+      lists = incidence-marked _ _ _ _ _ _ _ (half-as-many (begin (listed .before))) (listed .list-edges .ensures);
       start = omega (arith, turn .loop-test .taken, valid .inside .vertex-limit);
       limit = so-far .limit;
     }

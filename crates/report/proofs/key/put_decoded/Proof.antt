@@ -12,7 +12,7 @@ use Rattle.report.proofs.key.put_decoded.Tie as tie
 
 -- The states, from each back to the one before: the begin, and decoding's call, whose loans are over where its answer is matched.
 abbrev begun : tie.After-decode → tie.Start
-begun c = c .before .before .before .before .before .before .before .before .before .before
+begun c = c .before .before .before .before .before .before .before .before .before .before .before
 
 abbrev answered : tie.After-slice-known5 → tie.After-decode
 answered c = c .before .before .before .before
@@ -21,10 +21,10 @@ answered c = c .before .before .before .before
 abbrev lent : tie.Start → Sheet
 lent start =
     let a = start .args in
-    sheetOf (boardOf (a .vertices) (now (a .ends)) (now (a .marks))) (now (a .syndrome)) (now (a .loss))
+    sheetOf (boardOf (a .vertices) (now (a .ends)) (now (a .marks)) (now (a .opened))) (now (a .syndrome)) (now (a .loss))
 
 abbrev correctionLeft : tie.After-decode → List ℕ
-correctionLeft c = c .decode .last .1 .1 .1 .1 .1 .1 .0
+correctionLeft c = c .decode .last .1 .1 .1 .1 .1 .1 .1 .0
 
 -- the line of a refusal, and the lines of a key, are the sheet's report
 refused : (c : tie.After-n) →

@@ -14,7 +14,7 @@ use Rattle.report.proofs.key.put_key.Tie as tie
 
 -- The states, from each back to the one before: the begin, the growths put, the correction put, and the distance found.
 abbrev begun : tie.After-put-line-arg → tie.Start
-begun c = c .before .before .before .before .before .before
+begun c = c .before .before .before .before .before .before .before
 
 abbrev growths-put : tie.After-put-listed → tie.After-put-line
 growths-put c = c .before .before .before .before
@@ -28,7 +28,7 @@ start c = begun (growths-put (correction-put c) .before)
 -- what was found is the board's distance
 found : (c : tie.After-distance) →
     let a = start c .args in
-    fewestIn (c .distance .result) ≡ fewest (boardOf (a .vertices) (now (a .ends)) (now (a .marks)))
+    fewestIn (c .distance .result) ≡ fewest (boardOf (a .vertices) (now (a .ends)) (now (a .marks)) (now (a .opened)))
 found c =
     let w = start c .pre in
     measured _ _ _ (w .board) (w .shown-long) (c .distance .ensures .result)

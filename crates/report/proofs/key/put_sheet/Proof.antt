@@ -11,7 +11,7 @@ use Rattle.report.proofs.key.put_sheet.Tie as tie
 
 -- where the call began
 abbrev begun : tie.After-slice-known → tie.Start
-begun c = c .before .before .before .before .before
+begun c = c .before .before .before .before .before .before
 
 -- an array has a front with a byte for each edge
 front : (c : tie.After-slice-known) →

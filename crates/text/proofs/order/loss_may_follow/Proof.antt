@@ -15,6 +15,9 @@ enum-told-2 c = search needs
 enum-told-3 : tie.Need-enum-told-3
 enum-told-3 c = search needs
 
+enum-told-4 : tie.Need-enum-told-4
+enum-told-4 c = search needs
+
 enum-known-last : tie.Need-enum-known-last
 enum-known-last c = search needs
 
@@ -28,7 +31,10 @@ returns-3 : tie.Need-returns-3
 returns-3 c = search needs
 
 returns-4 : tie.Need-returns-4
-returns-4 c =
+returns-4 c = search needs
+
+returns-5 : tie.Need-returns-5
+returns-5 c =
     let found = c .before .before .before in
     sym (ap (λ l. lossMayFollow (meant l) (found .before .before .args .edge .0)) (found .last .given .1))
 
@@ -39,8 +45,10 @@ loss-may-follow-spec =
     enum-told
     enum-told-2
     enum-told-3
+    enum-told-4
     enum-known-last
     returns
     returns-2
     returns-3
-    returns-4)
+    returns-4
+    returns-5)

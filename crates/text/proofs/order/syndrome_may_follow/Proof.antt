@@ -12,11 +12,14 @@ enum-told c = search needs
 enum-told-2 : tie.Need-enum-told-2
 enum-told-2 c = search needs
 
+enum-told-3 : tie.Need-enum-told-3
+enum-told-3 c = search needs
+
 enum-known-last : tie.Need-enum-known-last
 enum-known-last c = search needs
 
-enum-told-3 : tie.Need-enum-told-3
-enum-told-3 c = search needs
+enum-told-4 : tie.Need-enum-told-4
+enum-told-4 c = search needs
 
 returns : tie.Need-returns
 returns c = search needs
@@ -25,12 +28,15 @@ returns-2 : tie.Need-returns-2
 returns-2 c = search needs
 
 returns-3 : tie.Need-returns-3
-returns-3 c =
+returns-3 c = search needs
+
+returns-4 : tie.Need-returns-4
+returns-4 c =
     let found = c .before .before .before in
     sym (ap (λ l. syndromeMayFollow (meant l) (found .before .before .args .vertex .0)) (found .last .given .1))
 
-returns-4 : tie.Need-returns-4
-returns-4 c = search needs
+returns-5 : tie.Need-returns-5
+returns-5 c = search needs
 
 pub syndrome-may-follow-spec : {M : Type 1} → statement M
 syndrome-may-follow-spec =
@@ -38,9 +44,11 @@ syndrome-may-follow-spec =
     (tie.spec
     enum-told
     enum-told-2
-    enum-known-last
     enum-told-3
+    enum-known-last
+    enum-told-4
     returns
     returns-2
     returns-3
-    returns-4)
+    returns-4
+    returns-5)

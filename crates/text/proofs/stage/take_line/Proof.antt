@@ -13,7 +13,7 @@ use Rattle.text.proofs.stage.take_line.Tie as tie
 
 -- what the arrays hold at the begin
 abbrev lent : tie.Start → Buffers
-lent s = buffersOf (now (s .args .ends)) (now (s .args .marks)) (now (s .args .syndrome)) (now (s .args .loss))
+lent s = buffersOf (now (s .args .ends)) (now (s .args .marks)) (now (s .args .opened)) (now (s .args .syndrome)) (now (s .args .loss))
 
 enum-told : tie.Need-enum-told
 enum-told c = search needs
@@ -25,12 +25,14 @@ enum-known-stage : tie.Need-enum-known-stage
 enum-known-stage c = search needs
 
 may-stand-requires : tie.Need-may-stand-requires
-may-stand-requires c κs = search needs
+may-stand-requires c κs =
+    let found = c .before .before in
+    subst Within (found .stage .given .1) (found .before .before .pre) .0
 
 returns : tie.Need-returns
 returns c =
     let asked = c .before in
-    let found = asked .before .before in
+    let found = asked .before .before .before in
     let s = found .before .before in
     let v = found .stage .given in
     takes-no-more (s .args .stage) (s .args .line) (lent s) (v .0 .0) (v .0 .1 .0) (v .0 .1 .1 .0) (v .1)
@@ -38,12 +40,12 @@ returns c =
 
 store-requires : tie.Need-store-requires
 store-requires c κs =
-    let may = c .before .before .before .before in
-    let found = may .before .before .before in
+    let may = c .before .before .before .before .before in
+    let found = may .before .before .before .before in
     let s = found .before .before in
     let v = found .stage .given in
     let limits = subst Within (v .1) (s .pre) in
-    storable (v .0 .0) (v .0 .1 .0) (meant (v .0 .1 .1 .0)) (meant (s .args .line)) (limits .0) (limits .1)
+    storable (v .0 .0) (v .0 .1 .0) (now (s .args .opened)) (meant (v .0 .1 .1 .0)) (meant (s .args .line)) (limits .0) (limits .1)
     (sym (may .before .may-stand .ensures) ∙ not-false _ (may .if1 .left))
 
 enum-told-2 : tie.Need-enum-told-2
@@ -56,8 +58,8 @@ returns-2 c =
 
 returns-3 : tie.Need-returns-3
 returns-3 c =
-    let may = c .before .before .before .before .before in
-    let found = may .before .before .before in
+    let may = c .before .before .before .before .before .before in
+    let found = may .before .before .before .before in
     let s = found .before .before in
     let v = found .stage .given in
     takes-on (s .args .stage) (s .args .line) (lent s) (v .0 .0) (v .0 .1 .0) (v .0 .1 .1 .0) (v .1) (c .store .result) _

@@ -17,7 +17,7 @@ fits s told = subst (λ l. Storable (s .args .edges) (meant l)) told (s .pre)
 
 -- what the arrays hold at the begin
 abbrev lent : tie.Start → Buffers
-lent s = buffersOf (now (s .args .ends)) (now (s .args .marks)) (now (s .args .syndrome)) (now (s .args .loss))
+lent s = buffersOf (now (s .args .ends)) (now (s .args .marks)) (now (s .args .opened)) (now (s .args .syndrome)) (now (s .args .loss))
 
 -- what is stored of the line that was found is stored of the line
 told-stores : (s : tie.Start) {l : Line} → s .args .line ≡ l → (m : ℕ) (new : Buffers) → Stores (s .args .edges) (meant l) (lent s) m new
@@ -66,20 +66,29 @@ add-result c = let found = c .before .before in omega (arith, fits (found .befor
 enum-known-line-2 : tie.Need-enum-known-line-2
 enum-known-line-2 c = search needs
 
+cast-opened : tie.Need-cast-opened
+cast-opened c = search needs
+
+element-write-opened : tie.Need-element-write-opened
+element-write-opened c = let found = c .before .before in fits (found .before .before) (found .line2 .given .1)
+
+enum-known-line-3 : tie.Need-enum-known-line-3
+enum-known-line-3 c = search needs
+
 cast-syndrome : tie.Need-cast-syndrome
 cast-syndrome c = search needs
 
 element-write-syndrome : tie.Need-element-write-syndrome
-element-write-syndrome c = let found = c .before .before in fits (found .before .before) (found .line2 .given .1)
+element-write-syndrome c = let found = c .before .before in fits (found .before .before) (found .line3 .given .1)
 
-enum-known-line-3 : tie.Need-enum-known-line-3
-enum-known-line-3 c = search needs
+enum-known-line-4 : tie.Need-enum-known-line-4
+enum-known-line-4 c = search needs
 
 cast-loss : tie.Need-cast-loss
 cast-loss c = search needs
 
 element-write-loss-2 : tie.Need-element-write-loss-2
-element-write-loss-2 c = let found = c .before .before in fits (found .before .before) (found .line3 .given .1)
+element-write-loss-2 c = let found = c .before .before in fits (found .before .before) (found .line4 .given .1)
 
 returns : tie.Need-returns
 returns c = told-stores (c .before .before) (c .enum-told .given .1) _ _ (record { count = refl; arrays = refl })
@@ -99,6 +108,11 @@ returns-4 c =
     let found = c .before .before in
     told-stores (found .before .before) (found .line3 .given .1) _ _ (record { count = refl; arrays = refl })
 
+returns-5 : tie.Need-returns-5
+returns-5 c =
+    let found = c .before .before in
+    told-stores (found .before .before) (found .line4 .given .1) _ _ (record { count = refl; arrays = refl })
+
 pub store-spec : {M : Type 1} → statement M
 store-spec =
     tie.close
@@ -117,12 +131,16 @@ store-spec =
     element-write-loss
     add-result
     enum-known-line-2
+    cast-opened
+    element-write-opened
+    enum-known-line-3
     cast-syndrome
     element-write-syndrome
-    enum-known-line-3
+    enum-known-line-4
     cast-loss
     element-write-loss-2
     returns
     returns-2
     returns-3
-    returns-4)
+    returns-4
+    returns-5)

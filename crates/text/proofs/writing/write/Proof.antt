@@ -16,11 +16,12 @@ use Rattle.text.proofs.writing.write.Tie as tie
 -- the sheet that is lent
 abbrev lent : tie.Start → Sheet
 lent s =
-    sheetOf (boardOf (s .args .vertices) (now (s .args .ends)) (now (s .args .marks))) (now (s .args .syndrome)) (now (s .args .loss))
+    sheetOf (boardOf (s .args .vertices) (now (s .args .ends)) (now (s .args .marks)) (now (s .args .opened)))
+    (now (s .args .syndrome)) (now (s .args .loss))
 
 -- The states, from each back to the one before: the sheet's tests passed, then the lines put.
 abbrev start : tie.After-enum-told → tie.Start
-start c = c .before .before .before .before .before .before .before .before
+start c = c .before .before .before .before .before .before .before .before .before
 
 abbrev passed : tie.After-put-sheet → tie.After-enum-told
 passed c = c .before .before

@@ -9,20 +9,20 @@ use Rattle.model.specs.Sums.{ones}
 use Rattle.model.specs.Verdict.{differs}
 use Rattle.board.specs.Checks.{vertexFound}
 use Rattle.verdict.proofs.LoadedBytes.{loaded-bits}
-use Rattle.verdict.proofs.Judged.{handed-inside, flipped-differs, judged-off, judged-same, judged-wound}
+use Rattle.verdict.proofs.Judged.{handed-inside, clearable, cleared-bits, cleared-differs, judged-off, judged-same, judged-wound}
 use Rattle.verdict.proofs.judge.judge.Statement.{statement}
 use Rattle.verdict.proofs.judge.judge.Tie as tie
 
 -- from where the first lit byte is found back to where the syndrome was copied, and to where the call began
 abbrev loaded : tie.After-vertex-above → tie.After-copy-bytes
-loaded c = c .before .before .before .before .before
+loaded c = c .before .before .before .before .before .before .before
 
 abbrev begun : tie.After-copy-bytes → tie.Start
-begun c = c .before .before .before .before .before .before .before
+begun c = c .before .before .before .before .before .before .before .before
 
 -- the board that is lent
 abbrev lent : tie.Start → Board
-lent start = boardOf (start .args .vertices) (start .args .ends .now) (start .args .marks .now)
+lent start = boardOf (start .args .vertices) (start .args .ends .now) (start .args .marks .now) (start .args .opened .now)
 
 -- what the search for a lit byte finds is where the syndromes first differ
 found : (c : tie.After-vertex-above) →
@@ -31,9 +31,10 @@ found : (c : tie.After-vertex-above) →
 found c =
     let start = begun (loaded c) in
     let a = start .args in
-    flipped-differs (lent start) (a .syndrome .now) (a .handed .now) (a .correction .now) (start .pre) _ _ _
+    cleared-differs (lent start) (a .syndrome .now) (a .handed .now) (a .correction .now) (start .pre) _ _ _ _
     (loaded c .copy-bytes .ensures)
-    (c .before .before .count-edges .ensures)
+    (c .before .before .before .before .count-edges .ensures)
+    (c .before .before .clear-open .ensures)
     (c .vertex-above .ensures)
 
 slice-aggregate-copy-bytes : tie.Need-slice-aggregate-copy-bytes
@@ -54,17 +55,27 @@ count-edges-requires c κs =
           (search needs),
     )
 
+clear-open-requires : tie.Need-clear-open-requires
+clear-open-requires c κs =
+    let flipped = c .before in
+    let start = begun (flipped .before .before .before) in
+    clearable (lent start) _ _ _ (start .pre) (flipped .count-edges .ensures)
+
 array-share-prefix-parity : tie.Need-array-share-prefix-parity
 array-share-prefix-parity c = search needs
 
+-- what is cleared is still 0 or 1
 slice-aggregate-vertex-above : tie.Need-slice-aggregate-vertex-above
 slice-aggregate-vertex-above c =
-    let bits = c .before .count-edges .ensures .bits in
+    let cleared = c .before in
+    let flipped = cleared .before .before in
+    let start = begun (flipped .before .before .before) in
+    let bits = cleared-bits (lent start) _ _ _ (start .pre) (flipped .count-edges .ensures) (cleared .clear-open .ensures) in
     sym (length-take-le _ _ (omega (arith, bits .long, bits .limit)))
 
 vertex-above-requires : tie.Need-vertex-above-requires
 vertex-above-requires c κs =
-    let bits = c .before .count-edges .ensures .bits in
+    let bits = c .before .before .before .count-edges .ensures .bits in
     simp length-take (omega (arith, bits .limit))
 
 enum-known-v : tie.Need-enum-known-v
@@ -111,6 +122,7 @@ judge-spec =
     slice-aggregate-copy-bytes
     copy-bytes-requires
     count-edges-requires
+    clear-open-requires
     array-share-prefix-parity
     slice-aggregate-vertex-above
     vertex-above-requires

@@ -1,4 +1,4 @@
--- `peeling::flips::flip_syndrome` meets its contract. The loop's invariant: the syndrome vertices passed have flipped. Assumes nothing.
+-- `peeling::flips::flip_ends` meets its contract. The loop's invariant: the vertices passed that hold 1 have flipped. Assumes nothing.
 use Prim.Native.Nat.{_-_, _≤_}
 use mathlib.Core.Path.{_≡_}
 use mathlib.Core.Logic.{⊎-elim}
@@ -10,15 +10,15 @@ use lib.ListN.{length}
 use Rattle.model.specs.Sums.{ones}
 use Rattle.peeling.specs.TreeFlips.{AllFlippable, AllFlipped}
 use Rattle.peeling.proofs.FlipLaws.{all-flippable, still-flippable, none-flipped, flipped-next, flipped-passed}
-use Rattle.peeling.proofs.flips.flip_syndrome.Statement.{statement}
-use Rattle.peeling.proofs.flips.flip_syndrome.Tie as tie
+use Rattle.peeling.proofs.flips.flip_ends.Statement.{statement}
+use Rattle.peeling.proofs.flips.flip_ends.Tie as tie
 
 abbrev Inv-loop : tie.InvT-loop
-Inv-loop syndrome parent odd₀ v₀ v-end odd v =
-    (v ≤ length syndrome) × AllFlippable (length syndrome) parent odd × AllFlipped parent v (ones syndrome) odd₀ odd
+Inv-loop oddEnds parent odd₀ v₀ v-end odd v =
+    (v ≤ length oddEnds) × AllFlippable (length oddEnds) parent odd × AllFlipped parent v (ones oddEnds) odd₀ odd
 
 abbrev μ-loop : tie.MeasureT-loop
-μ-loop syndrome parent odd₀ v₀ v-end odd v = length syndrome - v
+μ-loop oddEnds parent odd₀ v₀ v-end odd v = length oddEnds - v
 
 loop-holds : tie.Need-loop-holds Inv-loop μ-loop
 loop-holds c = (search needs, c .before .pre, none-flipped _ _ _)
@@ -54,11 +54,11 @@ loop-again c =
 returns : tie.Need-returns Inv-loop μ-loop
 returns c =
     let l = c .before .loop in
-    let done : l .v ≡ length (now (c .before .before .before .args .syndrome)) = omega arith in
+    let done : l .v ≡ length (now (c .before .before .before .args .lit)) = omega arith in
     rw done at (l .inv .2)
 
-pub flip-syndrome-spec : {M : Type 1} → statement M
-flip-syndrome-spec =
+pub flip-ends-spec : {M : Type 1} → statement M
+flip-ends-spec =
     tie.close
     (tie.spec
     Inv-loop

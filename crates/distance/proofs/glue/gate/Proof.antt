@@ -1,0 +1,56 @@
+-- `distance::glue::gate` meets its contract. The loop's invariant: no vertex before `v` is open. Assumes nothing.
+use Prim.Native.Nat.{_≤_, _-_}
+use mathlib.Core.Path.{ap}
+use borrow.Author.Needs.{needs}
+use borrow.Author.Tests.{eq-eqb, ne-eqb}
+use lib.ListN.{length}
+use Rattle.model.specs.Identified.{orZero}
+use Rattle.model.specs.Sums.{ones}
+use Rattle.board.proofs.Searching.{Passed, passed-none, passed-more, ends-at, ends-nowhere}
+use Rattle.distance.proofs.glue.gate.Statement.{statement}
+use Rattle.distance.proofs.glue.gate.Tie as tie
+
+abbrev Inv-loop : tie.InvT-loop
+Inv-loop opened v₀ v = (v ≤ length opened) × Passed (ones opened) v
+
+abbrev μ-loop : tie.MeasureT-loop
+μ-loop opened v₀ v = length opened - v
+
+loop-holds : tie.Need-loop-holds Inv-loop μ-loop
+loop-holds c = (search needs, passed-none _)
+
+shared-slice-read-if1 : tie.Need-shared-slice-read-if1 Inv-loop μ-loop
+shared-slice-read-if1 c = search needs
+
+cast-number : tie.Need-cast-number Inv-loop μ-loop
+cast-number c = search needs
+
+returns : tie.Need-returns Inv-loop μ-loop
+returns c = ap orZero (ends-at _ (c .before .before .before .loop .inv .1) (search needs) (eq-eqb _ _ (c .if1 .taken)))
+
+add-v : tie.Need-add-v Inv-loop μ-loop
+add-v c = search needs
+
+loop-less : tie.Need-loop-less Inv-loop μ-loop
+loop-less c = search needs
+
+loop-again : tie.Need-loop-again Inv-loop μ-loop
+loop-again c = (search needs, passed-more (c .before .before .before .loop .inv .1) (ne-eqb _ _ (c .if1 .left)))
+
+returns-2 : tie.Need-returns-2 Inv-loop μ-loop
+returns-2 c = ap orZero (ends-nowhere _ (c .before .loop .inv .1) (c .loop-test .left))
+
+pub gate-spec : {M : Type 1} → statement M
+gate-spec =
+    tie.close
+    (tie.spec
+    Inv-loop
+    μ-loop
+    loop-holds
+    shared-slice-read-if1
+    cast-number
+    returns
+    add-v
+    loop-less
+    loop-again
+    returns-2)

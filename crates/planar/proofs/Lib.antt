@@ -1,0 +1,9 @@
+pub mod Numbering
+pub mod SideRefused
+pub mod Edges
+pub mod Writing
+pub mod PlanarRows
+pub mod PlanarValid
+pub mod ColumnCuts
+pub mod PlanarLoop
+pub mod PlanarDistance
