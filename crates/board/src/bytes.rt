@@ -17,7 +17,7 @@ pub enum Place {
     Nowhere,
 }
 
-// The first place whose byte is above the limit: the pass behind the tests 6 to 9.
+// The first place whose byte is above the limit: the pass behind the tests 6 to 9 and 16.
 fn first_above(bytes: &[u8], limit: u8) -> Place
     ensures { λ r. ⌜ placeFound r ≡ firstUpTo (length (before bytes)) (above limit (before bytes)) ⌝ }
 {

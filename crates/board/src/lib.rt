@@ -1,5 +1,5 @@
-// What the calls share: the tests 1 to 4 and 6 to 9 on what is lent, in the order of their numbers; copying into a lent
-// buffer; the incidence lists of a board.
+// What the calls share: the tests 1 to 4, 6 to 9, 16 and 17 on what is lent, in the order of their numbers; copying into a lent buffer; the
+// incidence lists of a board.
 pub mod bytes;
 pub mod copy;
 pub mod counts;

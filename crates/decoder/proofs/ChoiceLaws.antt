@@ -1,8 +1,8 @@
 -- From the figures by label to document 01's choice: the labels of the trees are the clusters' labels, the counts by label are their
 -- parities and boundary sizes, and the first of the least is the cluster that grows.
 -- Assumes nothing.
-use Prim.Native.Nat.{ℕ, zero, suc, _%_, _≤_, _<_}
-use mathlib.Core.Path.{_≡_, refl, sym, ap, _∙_, subst}
+use Prim.Native.Nat.{ℕ, zero, suc, _≤_, _<_}
+use mathlib.Core.Path.{_≡_, refl, sym, _∙_, subst}
 use mathlib.Core.Bool.{Bool, true, false, cond, _&&_, and-comm}
 use mathlib.Core.List.{List}
 use mathlib.Core.Option.{Option, none, some}
@@ -10,10 +10,10 @@ use native.Mathlib.Nat.{le-refl}
 use native.Mathlib.Omega.{arith}
 use lib.ListN.{length, take, length-replicate, length-take}
 use lib.Seq.{getD-take}
-use lib.Dec.{eqb, ltb}
+use lib.Dec.{ltb}
 use Rattle.model.specs.Sums.{Set, ones}
 use Rattle.model.specs.Board.{Board, unmarked, vertexLimit}
-use Rattle.model.specs.Components.{label, labels, within}
+use Rattle.model.specs.Components.{labels, within}
 use Rattle.model.specs.Growth.{full, clusters, odd, exposed, boundary, better, choiceUpTo, choice}
 use Rattle.model.proofs.SumLaws.{count-cong}
 use Rattle.model.proofs.Bits.{eqb-bit}

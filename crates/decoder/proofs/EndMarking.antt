@@ -1,8 +1,8 @@
--- The odd ends, marked vertex by vertex: a cluster's count is odd as long as it is oddly lit and no open vertex of it was met, so the first to
--- be met is its smallest. Assumes nothing.
+-- The odd ends, marked vertex by vertex: a cluster's count is odd as long as it is oddly lit and no open vertex of it was met, so the
+-- first to be met is its smallest. Assumes nothing.
 use Prim.Native.Nat.{ℕ, suc, _%_, _<_}
 use mathlib.Core.Path.{_≡_, refl, sym, ap, ap₂, _∙_}
-use mathlib.Core.Bool.{Bool, true, false, not, _&&_, _||_, and-false, and-true, or-false, or-true, true≢false}
+use mathlib.Core.Bool.{Bool, true, false, not, _&&_, _||_, and-false, and-true, or-false, or-true}
 use mathlib.Core.List.{List}
 use native.Mathlib.Nat.{not-suc-le-zero}
 use native.Mathlib.Decide.{ℕ-discrete}

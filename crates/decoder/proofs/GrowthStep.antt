@@ -1,4 +1,5 @@
--- Marked vertices grow on the book: the supports are document 01's, and the book with the newly full edges fused is that of the new clusters.
+-- Marked vertices grow on the book: the supports are document 01's, and the book with the newly full edges fused is that of the new
+-- clusters.
 -- Assumes nothing.
 use Prim.Native.Nat.{ℕ, _+_, _<_, min}
 use mathlib.Core.Path.{_≡_, sym, ap, _∙_}

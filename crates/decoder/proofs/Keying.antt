@@ -163,7 +163,7 @@ module _ (x : Growth) (n : ℕ) (ends opened syndrome loss support written : Lis
               abbrev front : List ℕ
               front = take n lit
 
-              pub front-fits : n ≤ length lit
+              front-fits : n ≤ length lit
               front-fits = omega (arith, marks .long, w .lent .vertex-limit)
 
               pub front-long : length front ≡ n

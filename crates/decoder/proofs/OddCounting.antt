@@ -10,7 +10,7 @@ use borrow.Author.Tests.{eq-eqb, ne-eqb}
 use lib.ListN.{length, getD, set, length-set}
 use lib.Seq.{getD-set-same, getD-set-other}
 use lib.Dec.{eqb}
-use Rattle.model.specs.Sums.{ones, countUpTo, oddUpTo, someUpTo}
+use Rattle.model.specs.Sums.{ones, countUpTo, someUpTo}
 use Rattle.model.specs.Board.{Board, vertexLimit}
 use Rattle.model.specs.Components.{label, within}
 use Rattle.model.specs.Growth.{oddlyLit, holdsOpen, odd}

@@ -42,8 +42,8 @@ starts {n} {ends} {loss} {s} {r} p h =
 
 -- The run
 
--- after g growths: the book is that of the supports, which growths that the policy names reached, and what is left of the run ends where the
--- whole run does
+-- after g growths: the book is that of the supports, which growths that the policy names reached, and what is left of the run ends where
+-- the whole run does
 pub record Running (x : Growth) (n m : ℕ) (ends opened syndrome s₀ : List ℕ) (s : List ℕ) (b : Book) (g : ℕ) : Type 0 where
   pub steppable : Steppable n m b ends opened syndrome s
   pub unlit : Unlit (unmarked n m ends opened) (ones syndrome)

@@ -1,4 +1,5 @@
--- Each way out of `solve` is that of the definitions: a refusal writes nothing, and the key of the sheet without its marks is that of the sheet.
+-- Each way out of `solve` is that of the definitions: a refusal writes nothing, and the key of the sheet without its marks is that of the
+-- sheet.
 -- Assumes nothing.
 use Prim.Native.Nat.{ℕ, _≤_}
 use mathlib.Core.Path.{_≡_, refl, sym, ap, ap₂, _∙_, subst}

@@ -33,8 +33,8 @@ pub(crate) fn step(
 ) -> Stepped
     requires { ⌜ Steppable (book .vertices) (length (now support)) book (now ends) (now opened) (now syndrome) (now support) ⌝ }
     ensures { λ r.
-        ⌜ Steps (policyOf growth) (book .vertices) (length (before support)) (before ends) (before opened) (before syndrome) (before support)
-        r (after support) ⌝ }
+        ⌜ Steps (policyOf growth) (book .vertices) (length (before support)) (before ends) (before opened) (before syndrome)
+        (before support) r (after support) ⌝ }
 {
     let following = next(
         growth,
@@ -73,8 +73,8 @@ pub(crate) fn run(
 ) -> Ran
     requires { ⌜ Runnable (start .vertices) (length (now support)) start (now ends) (now opened) (now syndrome) (now support) ⌝ }
     ensures { λ r.
-        ⌜ Runs (policyOf growth) (start .vertices) (length (before support)) (before ends) (before opened) (before syndrome) (before support)
-        r (after support) ⌝ }
+        ⌜ Runs (policyOf growth) (start .vertices) (length (before support)) (before ends) (before opened) (before syndrome)
+        (before support) r (after support) ⌝ }
 {
     let mut book = start;
     let mut count = 0;

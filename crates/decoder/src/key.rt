@@ -31,8 +31,8 @@ pub(crate) fn key(
 ) -> Solved
     requires { ⌜ Keyable vertices (now ends) (now opened) (now syndrome) (now loss) (now support) (now correction) ⌝ }
     ensures { λ r.
-        ⌜ Keys (policyOf growth) (bare vertices (before ends) (before opened) (before syndrome) (before loss)) (before support) (before correction)
-        r (after support) (after correction) ⌝ }
+        ⌜ Keys (policyOf growth) (bare vertices (before ends) (before opened) (before syndrome) (before loss))
+        (before support) (before correction) r (after support) (after correction) ⌝ }
 {
     if let FoundVertex::At(v) = first_odd(vertices, ends, opened, syndrome) {
         return Solved::Refused(Refusal::NoCorrection(v));

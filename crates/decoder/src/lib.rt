@@ -1,5 +1,5 @@
-// Decoding: tests, the parts of the whole board, growth on the cluster book, and peeling. Weighted growth and rounds differ in which clusters
-// grow, and in nothing else.
+// Decoding: tests, the parts of the whole board, growth on the cluster book, and peeling. Weighted growth and rounds differ in which
+// clusters grow, and in nothing else.
 mod book;
 mod choice;
 mod exposure;

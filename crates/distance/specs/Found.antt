@@ -1,6 +1,6 @@
--- What the walks found so far, and what `distance` makes of it. The loop is found in an array with a byte for each edge that there may be, of
--- which the front, a byte for each edge of the board, is what is shown. No part of what a reader must believe: the contract of `distance` does
--- not cite it. Assumes nothing.
+-- What the walks found so far, and what `distance` makes of it. The loop is found in an array with a byte for each edge that there may be,
+-- of which the front, a byte for each edge of the board, is what is shown. No part of what a reader must believe: the contract of
+-- `distance` does not cite it. Assumes nothing.
 use Prim.Native.Nat.{ℕ, _≤_, _<_}
 use mathlib.Core.Path.{_≡_}
 use mathlib.Core.Bool.{true}
@@ -52,8 +52,8 @@ pub record Shortest (B : Board) (best : ℕ) (found : List ℕ) : Type 0 where
   pub distance : best < noLoop → fewest B ≡ some best
   pub loop : best < noLoop → ShowsLoop B best (take (edges B) found)
 
--- After the tests, of which the lent buffer asks for one, and the walks: the answer, and in the front of the array what it shows. Where it is
--- a refusal the front may hold anything.
+-- After the tests, of which the lent buffer asks for one, and the walks: the answer, and in the front of the array what it shows. Where it
+-- is a refusal the front may hold anything.
 pub record Answered (B : Board) (shown : List ℕ) (r : Distance) (found : List ℕ) : Type 0 where
   pub result : r ≡ answer (distanceRefusal B shown) Refused (distanceOf (fewest B))
   pub long : length found ≡ edgeLimit

@@ -8,7 +8,8 @@ use Rattle.model.specs.Sums.{_⊕_, bit}
 use Rattle.model.specs.Board.{Board, withoutOpen, firstEnd, secondEnd, vertexLimit}
 use Rattle.model.specs.Winding.{crossesA, crossesB}
 
--- The board with as many vertices as there may be, none of them open. The walks ask for no vertex count: a vertex without edges changes no walk.
+-- The board with as many vertices as there may be, none of them open. The walks ask for no vertex count: a vertex without edges changes no
+-- walk.
 abbrev pub padded : List ℕ → List ℕ → Board
 padded ends marks = withoutOpen vertexLimit ends marks
 

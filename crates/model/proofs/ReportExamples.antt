@@ -1,5 +1,5 @@
--- Document 01, "Text", and document 02, K3: the example text and what the program prints for it, a text with number 10, one with loop edges,
--- and one that doesn't read, each by computation. Assumes nothing.
+-- Document 01, "Text", and document 02, K3 and K5: the example text and what the program prints for it, a text with number 10, one with
+-- loop edges, one with open vertices, and one that doesn't read, each by computation. Assumes nothing.
 use Prim.Native.Nat.{ℕ}
 use mathlib.Core.Path.{_≡_, refl}
 use mathlib.Core.List.{List, [], _∷_, _++_}
@@ -53,6 +53,14 @@ pub loops-report :
     ≡ 71 ∷ 9 ∷ 48 ∷ 10 ∷ 68 ∷ 9 ∷ 49 ∷ 10 ∷ []
 unfolding reportOf sheetReport keyReport refusalLine distanceLine edgeLines reportLine decimalUpTo decimal fieldsOf partedBy numberFrom number numbers fromFields lineFrom step readOn readLines readText members oddUpTo countUpTo someUpTo firstUpTo values oddEnd syndrome closed crossings winds labelsUpTo labels start clusters oddlyLit holdsOpen odd exposed boundary choiceUpTo choice swell weighted growFrom grown takenUpTo forest oddSide spanned oddEnds correction parts inOddPart smallestOdd grownBy peeled fewestFrom fewest
 loops-report = refl
+
+-- a path between two open vertices, V 3, E 0 1 1, E 1 2 0, O 0, O 2, S 1: G 2, C 0, D 2
+pub open-report :
+    reportOf ((86 ∷ 9 ∷ 51 ∷ 10 ∷ []) ++ (69 ∷ 9 ∷ 48 ∷ 9 ∷ 49 ∷ 9 ∷ 49 ∷ 10 ∷ []) ++ (69 ∷ 9 ∷ 49 ∷ 9 ∷ 50 ∷ 9 ∷ 48 ∷ 10 ∷ [])
+    ++ (79 ∷ 9 ∷ 48 ∷ 10 ∷ []) ++ (79 ∷ 9 ∷ 50 ∷ 10 ∷ []) ++ (83 ∷ 9 ∷ 49 ∷ 10 ∷ []))
+    ≡ 71 ∷ 9 ∷ 50 ∷ 10 ∷ 67 ∷ 9 ∷ 48 ∷ 10 ∷ 68 ∷ 9 ∷ 50 ∷ 10 ∷ []
+unfolding reportOf sheetReport keyReport refusalLine distanceLine edgeLines reportLine decimalUpTo decimal fieldsOf partedBy numberFrom number numbers fromFields lineFrom step readOn readLines readText members oddUpTo countUpTo someUpTo firstUpTo values oddEnd syndrome closed crossings winds labelsUpTo labels start clusters oddlyLit holdsOpen odd exposed boundary choiceUpTo choice swell weighted growFrom grown takenUpTo forest oddSide spanned oddEnds correction parts inOddPart smallestOdd grownBy peeled fewestFrom fewest
+open-report = refl
 
 -- an S line twice: N 13 7
 pub repeated-report : reportOf (ring ++ lit3 ++ lit3) ≡ 78 ∷ 9 ∷ 49 ∷ 51 ∷ 9 ∷ 55 ∷ 10 ∷ []

@@ -1,5 +1,6 @@
--- Document 01, "Growth", steps 1 to 4, and document 02, K5: the weighted growth of source document 000 (its sections 2, 4 and 5). The steps settle what
--- that text leaves open, ties and the unit of work. Which clusters grow is a policy by itself, of which `Rounds` has another.
+-- Document 01, "Growth", steps 1 to 4, and document 02, K5: the weighted growth of source document 000 (its sections 2, 4 and 5). The
+-- steps settle what that text leaves open, ties and the unit of work. Which clusters grow is a policy by itself, of which `Rounds` has
+-- another.
 -- Assumes nothing.
 use Prim.Native.Nat.{ℕ, zero, suc, _+_, _*_, min}
 use mathlib.Core.Bool.{Bool, cond, not, _&&_}
@@ -48,9 +49,9 @@ exposed B s v = someUpTo (edges B) (λ e. touches B e v && not (full s e))
 unfoldable pub boundary : Board → List ℕ → List ℕ → ℕ → ℕ
 boundary B s l a = countUpTo (B .vertices) (λ v. within l a v && exposed B s v)
 
--- Step 3: of the odd clusters, the one to grow has the least boundary size, and in a tie the smallest label, its smallest vertex.
--- Cluster a, against the best of the clusters with smaller labels: it is taken where it is odd and, if there is such a best one, its boundary
--- size is strictly smaller.
+-- Step 3: of the odd clusters, the one to grow has the least boundary size, and in a tie the smallest label, its smallest vertex. Cluster
+-- a, against the best of the clusters with smaller labels: it is taken where it is odd and, if there is such a best one, its boundary size
+-- is strictly smaller.
 abbrev pub better : Board → List ℕ → List ℕ → Set → ℕ → Option ℕ → Option ℕ
 better B s l S a none = cond (odd B l S a) (some a) none
 better B s l S a (some c) = cond (odd B l S a && ltb (boundary B s l a) (boundary B s l c)) (some a) (some c)
@@ -63,8 +64,8 @@ choiceUpTo B s l S (suc a) = better B s l S a (choiceUpTo B s l S a)
 unfoldable pub choice : Board → List ℕ → List ℕ → Set → Option ℕ
 choice B s l S = choiceUpTo B s l S (B .vertices)
 
--- Step 4: each edge gains a half-edge for each of its ends in R, where both are, thus two, but never has more than 2; a full edge stays as it
--- is. Clusters fuse by definition: those of the new supports are the components by what is full now.
+-- Step 4: each edge gains a half-edge for each of its ends in R, where both are, thus two, but never has more than 2; a full edge stays as
+-- it is. Clusters fuse by definition: those of the new supports are the components by what is full now.
 unfoldable pub swell : Board → List ℕ → Set → List ℕ
 swell B s R = values (edges B) (λ e. min 2 (getD s e 0 + bit (R (firstEnd B e)) + bit (R (secondEnd B e))))
 

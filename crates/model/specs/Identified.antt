@@ -1,5 +1,5 @@
--- The identified board: all open vertices as one. It serves the proofs and the search for the distance; no product call's contract names it,
--- and what it is good for is a theorem (theory, `Identified`): a set is closed on it, and winds on it, where it does so on the board.
+-- The identified board: all open vertices as one. It serves the proofs and the search for the distance; no product call's contract names
+-- it, and what it is good for is a theorem (theory, `Identified`): a set is closed on it, and winds on it, where it does so on the board.
 -- Assumes nothing.
 use Prim.Native.Nat.{ℕ}
 use mathlib.Core.Bool.{cond}

@@ -1,5 +1,5 @@
--- Document 01, "How far contracts go", 1: what a contract sees of a lent buffer, that is, what it holds when the call begins, and what it holds
--- when the call is over. Assumes nothing.
+-- Document 01, "How far contracts go", 1: what a contract sees of a lent buffer, that is, what it holds when the call begins, and what it
+-- holds when the call is over. Assumes nothing.
 use Prim.Native.Nat.{ℕ}
 use mathlib.Core.List.{List}
 use denote.Ref.{RefT, now}

@@ -1,5 +1,5 @@
--- Document 01, "Marked sheets": m1 to m9 as theorems about the definitions, and document 02, K2: the vertices that number 10 shows, and K3:
--- loop edges. Gathered as one list, each proved by computation.
+-- Document 01, "Marked sheets": m1 to m9 as theorems about the definitions, and document 02, K2: the vertices that number 10 shows, K3:
+-- loop edges, and K5: open sides. Gathered as one list, each proved by computation.
 -- Assumes nothing.
 use Prim.Native.Nat.{ℕ, _+_, _*_}
 use mathlib.Core.Path.{_≡_, refl}
@@ -11,7 +11,7 @@ use lib.Dec.{eqb}
 use Rattle.model.specs.declared.answers.Decoded.the-variants.{Key, Refused}
 use Rattle.model.specs.declared.answers.RoundsDecoded.the-variants as inRounds
 use Rattle.model.specs.Sums.{Set, oddUpTo, countUpTo, someUpTo, firstUpTo, values, ones, bytes, members}
-use Rattle.model.specs.Board.{Board, withoutOpen, Sheet, edges}
+use Rattle.model.specs.Board.{Board, boardOf, withoutOpen, Sheet, edges}
 use Rattle.model.specs.Syndrome.{oddEnd, syndrome}
 use Rattle.model.specs.Winding.{closed, crossings, winds, together}
 use Rattle.model.specs.Components.{labelsUpTo, labels}
@@ -23,6 +23,7 @@ use Rattle.model.specs.Decoding.{parts, inOddPart, smallestOdd, grownBy,
 use Rattle.model.specs.Demand3.{lostEdges, keptEdges}
 use Rattle.model.specs.Distance.{fewestFrom, fewest}
 use Rattle.model.specs.Torus.{torusEnds, torusMarks, torus}
+use Rattle.model.specs.Planar.{planarEnds, planarMarks, planarOpens, planar}
 use Rattle.model.specs.Refusals.{noneAt, decodeRefusal}
 use Rattle.model.specs.Outcomes.{keyOrNone, decodeAnswer}
 use Rattle.model.specs.RoundsOutcomes.{roundsOrNone, roundsAnswer}
@@ -68,6 +69,15 @@ looped = withoutOpen 2 (0 ∷ 0 ∷ 0 ∷ 1 ∷ 1 ∷ 1 ∷ []) (1 ∷ 0 ∷ 2 �
 -- K3: the torus of side 1, entry by entry
 abbrev pub sideOne : Board
 sideOne = withoutOpen 1 (0 ∷ 0 ∷ 0 ∷ 0 ∷ []) (1 ∷ 2 ∷ [])
+
+-- K5: the planar board of side 2, entry by entry: rows 0 1 2 and 3 4 5, of which 0, 2, 3 and 5 are open
+abbrev pub sideTwo : Board
+sideTwo =
+    boardOf 6 (0 ∷ 1 ∷ 1 ∷ 2 ∷ 3 ∷ 4 ∷ 4 ∷ 5 ∷ 1 ∷ 4 ∷ []) (1 ∷ 0 ∷ 1 ∷ 0 ∷ 0 ∷ []) (1 ∷ 0 ∷ 1 ∷ 1 ∷ 0 ∷ 1 ∷ [])
+
+-- K5: the edges 2-1 and 4-3, marks 0, of which vertices 2 and 4 are open, and vertex 0 alone
+abbrev pub twoOpen : Board
+twoOpen = boardOf 5 (2 ∷ 1 ∷ 4 ∷ 3 ∷ []) (0 ∷ 0 ∷ []) (0 ∷ 0 ∷ 1 ∷ 0 ∷ 1 ∷ [])
 
 -- the table answers with this many growths and this correction
 pub record Keyed (X : Sheet) (steps : ℕ) (edges : List ℕ) : Type 0 where
@@ -145,6 +155,20 @@ twoOdd = sheet twoEdges (2 ∷ 4 ∷ []) []
 abbrev pub loops : Sheet
 loops = sheet looped (0 ∷ 1 ∷ []) (2 ∷ [])
 
+-- K5, planar of side 2, {1}: two growths of vertex 1 fill its three edges, and the cluster then holds the open vertices 0 and 2; the
+-- smaller one is its other odd end, so the correction is {0}. The set {1} has the same syndrome, and winds with it from side to side.
+abbrev pub oneLit : Sheet
+oneLit = sheet sideTwo (1 ∷ []) []
+
+-- K5, planar of side 2, {1,4}, lost 0 and 1: the cluster of 0, 1 and 2 holds an open vertex and never grows. Vertex 4 does, twice, and then
+-- all is one cluster with two syndrome vertices, to which no open vertex is added.
+abbrev pub openLost : Sheet
+openLost = sheet sideTwo (1 ∷ 4 ∷ []) (0 ∷ 1 ∷ [])
+
+-- K5, {0,3}: the part of vertex 3 is oddly lit but holds the open vertex 4; vertex 0 alone is an odd part
+abbrev pub openPart : Sheet
+openPart = sheet twoOpen (0 ∷ 3 ∷ []) []
+
 pub record MarkedSheets : Type 0 where
   pub m1-key : Keyed m1 2 (3 ∷ [])
   pub ring-distance : fewest ring ≡ some 4
@@ -182,9 +206,19 @@ pub record MarkedSheets : Type 0 where
   pub side-one-key : Keyed (sheet sideOne [] []) 0 []
   pub side-one-none : NoKey (sheet sideOne (0 ∷ []) []) 0
   pub side-one-distance : fewest sideOne ≡ some 1
+  pub side-two : planar 2 ≡ sideTwo
+  pub one-lit-key : Keyed oneLit 2 (0 ∷ [])
+  pub one-lit-full : EndFull oneLit (0 ∷ 1 ∷ 4 ∷ [])
+  pub one-lit-fits : Fits oneLit (1 ∷ [])
+  pub one-lit-winds : winds sideTwo (together (setOf (1 ∷ [])) (corrected oneLit)) ≡ true
+  pub one-lit-rounds : RoundsKeyed oneLit 2 (0 ∷ []) (2 ∷ 2 ∷ 0 ∷ 0 ∷ 2 ∷ [])
+  pub open-lost-key : Keyed openLost 2 (4 ∷ [])
+  pub open-lost-full : EndFull openLost (0 ∷ 1 ∷ 2 ∷ 3 ∷ 4 ∷ [])
+  pub open-part-none : NoKey openPart 0
+  pub side-two-distance : fewest sideTwo ≡ some 2
 
 pub marked-sheets : MarkedSheets
-unfolding members setOf sheet oddUpTo countUpTo someUpTo firstUpTo values oddEnd syndrome closed crossings winds labelsUpTo labels start clusters oddlyLit holdsOpen odd exposed boundary choiceUpTo choice swell weighted allOdd growFrom grown takenUpTo forest oddSide spanned oddEnds correction parts inOddPart smallestOdd grownBy peeled fewestFrom fewest torusEnds torusMarks torus decodeRefusal keyOrNone decodeAnswer roundsOrNone roundsAnswer
+unfolding members setOf sheet oddUpTo countUpTo someUpTo firstUpTo values oddEnd syndrome closed crossings winds labelsUpTo labels start clusters oddlyLit holdsOpen odd exposed boundary choiceUpTo choice swell weighted allOdd growFrom grown takenUpTo forest oddSide spanned oddEnds correction parts inOddPart smallestOdd grownBy peeled fewestFrom fewest torusEnds torusMarks torus planarEnds planarMarks planarOpens planar decodeRefusal keyOrNone decodeAnswer roundsOrNone roundsAnswer
 marked-sheets =
     record {
       m1-key = record { answers = refl; corrects = refl };
@@ -223,4 +257,14 @@ marked-sheets =
       side-one-key = record { answers = refl; corrects = refl };
       side-one-none = refl;
       side-one-distance = refl;
+      side-two = refl;
+      one-lit-key = record { answers = refl; corrects = refl };
+      one-lit-full = refl;
+      one-lit-fits = refl;
+      one-lit-winds = refl;
+      one-lit-rounds = record { answers = refl; corrects = refl; supports = refl };
+      open-lost-key = record { answers = refl; corrects = refl };
+      open-lost-full = refl;
+      open-part-none = refl;
+      side-two-distance = refl;
     }

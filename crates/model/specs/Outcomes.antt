@@ -1,5 +1,5 @@
--- Document 01, "How far contracts go", 1: the outcome of decoding, verdict, distance, torus and planar board, that is, what the call answers and what every
--- lent buffer holds when it is over, also where it refuses. Reading and writing are in `TextOutcomes`.
+-- Document 01, "How far contracts go", 1: the outcome of decoding, verdict, distance, torus and planar board, that is, what the call
+-- answers and what every lent buffer holds when it is over, also where it refuses. Reading and writing are in `TextOutcomes`.
 -- Assumes nothing.
 use Prim.Native.Nat.{ℕ, _*_}
 use mathlib.Core.Path.{_≡_}
@@ -113,8 +113,8 @@ pub record Builds (L : ℕ) (ends marks : List ℕ) (r : Built) (ends′ marks�
   pub ends-filled : ends′ ≡ builtOr r (torusEnds L) ends
   pub marks-filled : marks′ ≡ builtOr r (torusMarks L) marks
 
--- The planar builder answers with the number of vertices, L(L + 1). Its buffers end as all ends, marks and open bytes, or as they were where
--- it refuses.
+-- The planar builder answers with the number of vertices, L(L + 1). Its buffers end as all ends, marks and open bytes, or as they were
+-- where it refuses.
 unfoldable pub planarAnswer : ℕ → List ℕ → List ℕ → List ℕ → Built
 planarAnswer L ends marks opened = answer (planarRefusal L ends marks opened) built.Refused (built.Vertices (planarVertices L))
 

@@ -1,5 +1,5 @@
--- Document 01, "Numbers and places", and document 02, K3 and K5: the number and the place of each refusal, and the rules of each call in the order
--- of their tests. No refusal has number 5, which was that of equal ends.
+-- Document 01, "Numbers and places", and document 02, K3 and K5: the number and the place of each refusal, and the rules of each call in
+-- the order of their tests. No refusal has number 5, which was that of equal ends.
 -- Assumes nothing.
 use Prim.Native.Nat.{ℕ, _*_, _/_, _%_}
 use mathlib.Core.Bool.{Bool, cond, _&&_, _||_}
@@ -194,8 +194,8 @@ unfoldable pub sheetRules : Sheet → Bool → List Rule
 unfolding plainRules
 sheetRules X others = plainRules X others ++ openRules X
 
--- Each call's list covers all that it is lent. Decoding and the verdict test for number 10 as well, once all rules of their lists are kept: it
--- asks for the parts of a board that keeps the rules. Decoding is lent a sheet and two buffers to fill.
+-- Each call's list covers all that it is lent. Decoding and the verdict test for number 10 as well, once all rules of their lists are
+-- kept: it asks for the parts of a board that keeps the rules. Decoding is lent a sheet and two buffers to fill.
 unfoldable pub decodeRules : Sheet → List ℕ → List ℕ → List Rule
 unfolding sheetRules
 decodeRules X support correction =
@@ -224,8 +224,8 @@ unfoldable pub distanceRefusal : Board → List ℕ → Test
 unfolding distanceRules
 distanceRefusal B shown = refusalOf (distanceRules B shown)
 
--- The torus builder is lent buffers for 4L² ends and 2L² marks. A side that breaks rule 11 is refused first, whatever the lengths; any other
--- length is then 3, also of the ends, which are to be filled and not given.
+-- The torus builder is lent buffers for 4L² ends and 2L² marks. A side that breaks rule 11 is refused first, whatever the lengths; any
+-- other length is then 3, also of the ends, which are to be filled and not given.
 unfoldable pub torusRules : ℕ → List ℕ → List ℕ → List Rule
 torusRules L ends marks =
     sideRule L

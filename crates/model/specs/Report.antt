@@ -49,8 +49,8 @@ distanceLine (some d) = reportLine letterD (d ∷ [])
 unfoldable pub refusalLine : Refusal → List ℕ
 refusalLine n = reportLine letterN (numberOf n ∷ placeOf n ∷ [])
 
--- The report of a key: the line `G` with the number of growths, then for each edge of the correction, by rising number, a line `C` (none where
--- the correction is empty), then the line `D`.
+-- The report of a key: the line `G` with the number of growths, then for each edge of the correction, by rising number, a line `C` (none
+-- where the correction is empty), then the line `D`.
 unfoldable pub keyReport : Sheet → List ℕ
 keyReport X =
     reportLine letterG (growths X ∷ [])

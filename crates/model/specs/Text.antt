@@ -91,8 +91,8 @@ printed (l ∷ ls) = bytesOf l ++ newline ∷ printed ls
 abbrev pub edgeLine : Board → ℕ → Line
 edgeLine B e = E-line (firstEnd B e) (secondEnd B e) (mark B e)
 
--- The lines of a sheet: one `V` line, then the edges as `E` lines by their numbers, then the open vertices as `O` lines, the syndrome as `S`
--- lines and the loss as `X` lines, each rising.
+-- The lines of a sheet: one `V` line, then the edges as `E` lines by their numbers, then the open vertices as `O` lines, the syndrome as
+-- `S` lines and the loss as `X` lines, each rising.
 unfoldable pub linesOf : Sheet → List Line
 linesOf sheet =
     let B = sheet .board in
@@ -187,8 +187,8 @@ firstLine (X-line e) = none
 abbrev pub begun : ℕ → Sheet
 begun n = sheetOf (withoutOpen n [] []) (replicate n 0) []
 
--- `E` lines follow the `V` line or one another, at most 4,096 of them; equal ones are parallel edges. The ends are two vertices, or one vertex
--- twice (a loop edge), and the mark is at most 3.
+-- `E` lines follow the `V` line or one another, at most 4,096 of them; equal ones are parallel edges. The ends are two vertices, or one
+-- vertex twice (a loop edge), and the mark is at most 3.
 abbrev pub edgeMayFollow : Line → Bool
 edgeMayFollow (V-line n) = true
 edgeMayFollow (E-line a b m) = true

@@ -1,5 +1,5 @@
--- Document 01, "Text" and "How far contracts go", 1: the outcome of reading and of writing a text, that is, what the call answers and what every
--- lent buffer holds when it is over, also where it refuses.
+-- Document 01, "Text" and "How far contracts go", 1: the outcome of reading and of writing a text, that is, what the call answers and what
+-- every lent buffer holds when it is over, also where it refuses.
 -- Assumes nothing.
 use Prim.Native.Nat.{ℕ, _*_}
 use mathlib.Core.Path.{_≡_}

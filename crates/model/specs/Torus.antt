@@ -35,8 +35,8 @@ torusFrom e = e / 2
 abbrev pub torusTo : ℕ → ℕ → ℕ
 torusTo L e = cond (eqb (e % 2) 0) (rightOf L (e / 2)) (below L (e / 2))
 
--- Edge 2v has mark 1 where it leads from the last column to the first, edge 2v + 1 mark 2 where it leads from the last row to the first. All
--- other marks are 0.
+-- Edge 2v has mark 1 where it leads from the last column to the first, edge 2v + 1 mark 2 where it leads from the last row to the first.
+-- All other marks are 0.
 abbrev pub torusMark : ℕ → ℕ → ℕ
 torusMark L e =
     cond (eqb (e % 2) 0) (cond (eqb (column L (e / 2)) (L - 1)) 1 0) (cond (eqb (row L (e / 2)) (L - 1)) 2 0)

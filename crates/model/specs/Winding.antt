@@ -1,5 +1,5 @@
--- Document 01, "Board and loops": closed sets (cycles modulo 2) and winding sets (cycles whose marks do not cancel). With document 02, K5, a
--- closed set may end at open vertices, so that what runs from open side to open side may wind too.
+-- Document 01, "Board and loops": closed sets (cycles modulo 2) and winding sets (cycles whose marks do not cancel). With document 02, K5,
+-- a closed set may end at open vertices, so that what runs from open side to open side may wind too.
 -- Assumes nothing.
 use Prim.Native.Nat.{ℕ, _+_, _*_, _/_, _%_}
 use mathlib.Core.Bool.{Bool, not, _&&_}

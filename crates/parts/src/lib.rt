@@ -1,5 +1,5 @@
-// The connected parts of the whole board, and the vertex of number 10: the smallest of all parts that hold an odd number of syndrome vertices
-// and no open vertex.
+// The connected parts of the whole board, and the vertex of number 10: the smallest of all parts that hold an odd number of syndrome
+// vertices and no open vertex.
 use board::outcome::FoundVertex;
 use model::ends::first_end;
 use model::ends::second_end;
@@ -100,7 +100,8 @@ fn first_marked(vertices: usize, parent: &[u16; VERTICES], odd: &[u8; VERTICES])
 pub fn first_odd(vertices: usize, ends: &[u16], opened: &[u8], syndrome: &[u8]) -> FoundVertex
     requires { ⌜ Searchable vertices (now ends) (now opened) (now syndrome) ⌝ }
     ensures { λ r.
-        ⌜ vertexFound r ≡ smallestOdd (unmarked vertices (edgesOf (before ends)) (before ends) (before opened)) (ones (before syndrome)) ⌝ }
+        ⌜ vertexFound r ≡ smallestOdd (unmarked vertices (edgesOf (before ends)) (before ends) (before opened))
+        (ones (before syndrome)) ⌝ }
 {
     let parent = connect(vertices, ends);
     let mut odd = parities(&parent, syndrome);

@@ -1,5 +1,5 @@
--- What peeling does to an edge, and what it leaves: the subset of the forest with given odd ends. Internal: decoding's own contract says the
--- same of its own result.
+-- What peeling does to an edge, and what it leaves: the subset of the forest with given odd ends. Internal: decoding's own contract says
+-- the same of its own result.
 -- Assumes nothing.
 use Prim.Native.Nat.{ℕ, _+_, _*_, _<_}
 use mathlib.Core.Path.{_≡_}

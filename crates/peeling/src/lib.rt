@@ -1,4 +1,4 @@
-// Peeling: the spanning forest of the full edges, and its one subset that has the lit.
+// Peeling: the spanning forest of the full edges, and its one subset that has given odd ends.
 mod flips;
 mod forest;
 
@@ -37,9 +37,9 @@ fn cut(
     1
 }
 
-// The correction of the full edges for odd ends, those with a 1 in `lit`, of which every cluster holds an even number: a byte for each edge,
-// and how many edges it has. The edges of the forest are cut in falling number: what hangs at the link of an edge is then one side of it in the forest of the
-// edges up to it.
+// The correction of the full edges for odd ends, those with a 1 in `lit`, of which every cluster holds an even number: a byte for each
+// edge, and how many edges it has. The edges of the forest are cut in falling number: what hangs at the link of an edge is then one side
+// of it in the forest of the edges up to it.
 pub fn peel(
     vertices: usize,
     ends: &[u16],

@@ -21,7 +21,8 @@ ghost use Rattle.planar.specs.Sides.{SideWithin};
 
 // The planar board of side L: the vertex count, with all ends, marks and open bytes filled in; or a refusal, with nothing written.
 pub fn planar(side: usize, ends: &mut [u16], marks: &mut [u8], opened: &mut [u8]) -> Built
-    ensures { λ r. ⌜ BuildsPlanar side (before ends) (before marks) (before opened) r (after ends) (after marks) (after opened) ⌝ }
+    ensures { λ r.
+        ⌜ BuildsPlanar side (before ends) (before marks) (before opened) r (after ends) (after marks) (after opened) ⌝ }
 {
     if side < LEAST_PLANAR || side > LARGEST_PLANAR {
         return Built::Refused(Refusal::PlanarSide(side));

@@ -90,7 +90,8 @@ pub(crate) fn put_sheet(
     loss: &[u8],
     out: &mut [u8],
 ) -> usize
-    requires { ⌜ ValidSheet (sheetOf (boardOf vertices (now ends) (now marks) (now opened)) (now syndrome) (now loss)) × Room (now out) ⌝ }
+    requires { ⌜ ValidSheet (sheetOf (boardOf vertices (now ends) (now marks) (now opened)) (now syndrome) (now loss))
+        × Room (now out) ⌝ }
     ensures { λ r. ⌜ InFront (sheetReport (sheetLent vertices ends marks opened syndrome loss)) (before out) r (after out) ⌝ }
 {
     let edges = marks.len();

@@ -1,6 +1,6 @@
 // The static library: the calls of the table under plain C names, each answering one packed number. Of each, `number` says which number,
-// and `outcome` that what a caller takes from it is the call's answer, with the final contents of every buffer; of decoding, by growths and in
-// rounds, and of the verdict, `sound` says what may be relied on, of the same answer.
+// and `outcome` that what a caller takes from it is the call's answer, with the final contents of every buffer; of decoding, by growths
+// and in rounds, and of the verdict, `sound` says what may be relied on, of the same answer.
 mod packing;
 
 use crate::packing::pack;
@@ -184,7 +184,8 @@ pub extern "C" fn surface_read(
 ) -> u64
     ensures number { λ r.
         ⌜ r ≡ packedReading
-        (counts (readOutcome (before text) (buffersOf (before ends) (before marks) (before opened) (before syndrome) (before loss)))) ⌝ }
+        (counts (readOutcome (before text)
+        (buffersOf (before ends) (before marks) (before opened) (before syndrome) (before loss)))) ⌝ }
     ensures outcome { λ r.
         ⌜ Reads (before text) (buffersOf (before ends) (before marks) (before opened) (before syndrome) (before loss))
         (unpackedReading r) (buffersOf (after ends) (after marks) (after opened) (after syndrome) (after loss)) ⌝ }

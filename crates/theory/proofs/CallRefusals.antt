@@ -1,7 +1,8 @@
 -- Document 01, "Numbers and places", of each call: of all refusals that apply it gives the one with the smallest number, and of those with
--- that number the one with the smallest place. The numbers of the rules rise in all calls but the torus builder, whose lengths come after
--- its side. Outside the lists stand 10, which decoding, in rounds too, and the verdict give only where nothing of their lists applies, and 13, which the
--- reader gives alike. Assumes nothing.
+-- that number the one with the smallest place. The numbers of the rules rise in all calls but three: the builders test the side before the
+-- lengths, and the writer the open bytes before the text; of these it is the first rule of the list that is broken. Outside the lists stand
+-- 10, which decoding, in rounds too, and the verdict give only where nothing of their lists applies, and 13, which the reader gives alike.
+-- Assumes nothing.
 use Prim.Native.Nat.{ℕ, _*_, _≤_}
 use mathlib.Core.Path.{_≡_, refl, ap, _∙_}
 use mathlib.Core.Bool.{_&&_}
@@ -10,29 +11,28 @@ use mathlib.Core.List.{List, [], _∷_}
 use mathlib.Core.Option.{none, some}
 use native.Mathlib.Omega.{arith}
 use borrow.Author.Tests.{leb-true}
-use lib.ListN.{length}
 use lib.Dec.{leb}
 use Rattle.model.specs.declared.refusal.Refusal.{Refusal}
-use Rattle.model.specs.declared.refusal.Refusal.the-variants.{BufferLength, TorusSide, MalformedLine}
+use Rattle.model.specs.declared.refusal.Refusal.the-variants.{BufferLength, TorusSide, PlanarSide, MalformedLine}
 use Rattle.model.specs.declared.answers.Decoded.the-variants as decoded
 use Rattle.model.specs.declared.answers.RoundsDecoded.the-variants as inRounds
 use Rattle.model.specs.declared.answers.Verdict.the-variants as verdict
 use Rattle.model.specs.declared.answers.Distance.the-variants as distance
 use Rattle.model.specs.declared.answers.Built.the-variants as built
 use Rattle.model.specs.declared.answers.Reading.the-variants as reading
-use Rattle.model.specs.declared.answers.Written.the-variants as written
 use Rattle.model.specs.Board.{Board, Sheet}
 use Rattle.model.specs.Torus.{leastSide, largestSide}
-use Rattle.model.specs.Refusals.{Test, numberOf, noneAt, sized, lengthRule, sideRule, decodeRules, decodeRefusal, verdictRules, verdictRefusal, distanceRules, distanceRefusal, torusRules, torusRefusal}
+use Rattle.model.specs.Planar.{leastPlanar, largestPlanar, planarVertices, planarEdges}
+use Rattle.model.specs.Refusals.{Test, numberOf, noneAt, sized, lengthRule, sideRule, planarSideRule, decodeRules, decodeRefusal, verdictRules, verdictRefusal, distanceRules, distanceRefusal, torusRules, torusRefusal, planarRules, planarRefusal}
 use Rattle.model.specs.Outcomes.{answer, keyOrNone, decodeAnswer, judgedOrNone, verdictAnswer, distanceOf, distanceAnswer, torusAnswer}
 use Rattle.model.specs.RoundsOutcomes.{roundsOrNone, roundsAnswer}
 use Rattle.model.specs.Distance.{fewest}
-use Rattle.model.specs.Text.{refused, textOf, readText}
-use Rattle.model.specs.TextOutcomes.{Buffers, readRules, readRefusal, readOutcome, counts, writeRules, writeRefusal, writeAnswer}
+use Rattle.model.specs.Text.{refused, readText}
+use Rattle.model.specs.TextOutcomes.{Buffers, readRules, readRefusal, readOutcome, counts, writeRules, writeRefusal}
 use Rattle.model.specs.Precedence.{Applies, here, there, NoneApplies, Decides, Smallest, AnswersSmallest}
 use Rattle.model.proofs.Contradiction.{zero-one}
 use Rattle.model.proofs.Xor.{and-left, and-right, not-false-true}
-use Rattle.model.proofs.RuleNumbers.{decode-numbers, verdict-numbers, distance-numbers, torus-numbers, read-numbers, write-numbers}
+use Rattle.model.proofs.RuleNumbers.{decode-numbers, verdict-numbers, distance-numbers, torus-numbers, planar-numbers, read-numbers, write-numbers}
 use Rattle.theory.proofs.Precedence.{empty-applies, decides-exactly, earlier-kept, other-number}
 use Rattle.theory.proofs.SmallestNumber.{smallest-exactly, answers-smallest}
 
@@ -151,3 +151,26 @@ torus-length-answer L ends marks p = go (torusRefusal L ends marks) refl p
         → (leastSide ≤ L) × (L ≤ largestSide)
     go none e p = zero-one (cc)
     go (some r) e p = let same : r ≡ BufferLength = cc in torus-length L ends marks (e ∙ ap some same)
+
+-- The planar builder: 18 before 3
+
+pub planar-decides : (L : ℕ) (ends marks opened : List ℕ) (r : Refusal)
+    → (planarRefusal L ends marks opened ≡ some r) ↔ Decides (planarRules L ends marks opened) r
+unfolding planarRefusal
+planar-decides L ends marks opened = decides-exactly (planar-numbers L ends marks opened)
+
+-- Theorem: number 3 is given only where the side is in range, since number 18 is tested before.
+pub planar-length : (L : ℕ) (ends marks opened : List ℕ) → planarRefusal L ends marks opened ≡ some BufferLength
+    → (leastPlanar ≤ L) × (L ≤ largestPlanar)
+unfolding planarRefusal
+planar-length L ends marks opened p =
+    let fit = sized ends (2 * planarEdges L) && sized marks (planarEdges L) && sized opened (planarVertices L) in
+    let kept = earlier-kept (planarSideRule L ∷ []) (lengthRule fit ∷ []) BufferLength p others in
+    let in-range = not-false-true (leb leastPlanar L && leb L largestPlanar) (λ out. kept (PlanarSide L) (here (out, refl))) in (
+      leb-true leastPlanar L (and-left (leb leastPlanar L) (leb L largestPlanar) in-range),
+      leb-true L largestPlanar (and-right (leb leastPlanar L) (leb L largestPlanar) in-range),
+    )
+  where
+    others : (q : Refusal) → Applies (planarSideRule L ∷ []) q → numberOf q ≢ numberOf BufferLength
+    others q (here b) e = let eighteen : numberOf q ≡ 18 = ap numberOf (b .1) in omega arith
+    others q (there a) e = empty-applies q a

@@ -1,5 +1,5 @@
--- What decoding answers once its tests are passed, and what it writes where there is a correction, be it by weighted growth or in rounds: it
--- lies in the forest of the full edges, and has the syndrome put.
+-- What decoding answers once its tests are passed, and what it writes where there is a correction, be it by weighted growth or in rounds:
+-- it lies in the forest of the full edges, and has the syndrome put.
 -- Assumes nothing.
 use Prim.Native.Nat.{ℕ}
 use mathlib.Core.Path.{_≡_}

@@ -1,5 +1,5 @@
--- How long growth by a policy that feeds odd clusters lasts, be it weighted or in rounds: each time some kept edge of every set that has the
--- syndrome gains a half-edge, so that is at most twice for each kept edge, and at the end no cluster is odd.
+-- How long growth by a policy that feeds odd clusters lasts, be it weighted or in rounds: each time some kept edge of every set that has
+-- the syndrome gains a half-edge, so that is at most twice for each kept edge, and at the end no cluster is odd.
 -- Assumes nothing.
 use Prim.Native.Nat.{ℕ, zero, suc, _+_, _*_, _≤_, _<_}
 use mathlib.Core.Path.{_≡_, refl, sym, ap, _∙_, subst}

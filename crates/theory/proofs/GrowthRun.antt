@@ -1,6 +1,6 @@
--- The run of growth by a policy (model, Growth): every state that it passes is reached by growths that the policy names, and it ends where the
--- policy names none or where its steps are used up. A policy that feeds odd clusters names some odd cluster as long as there is one; it may
--- name more than that. Nothing here rests on which.
+-- The run of growth by a policy (model, Growth): every state that it passes is reached by growths that the policy names, and it ends where
+-- the policy names none or where its steps are used up. A policy that feeds odd clusters names some odd cluster as long as there is one;
+-- it may name more than that. Nothing here rests on which.
 -- Assumes nothing.
 use Prim.Native.Nat.{ℕ, zero, suc, _+_, _*_, _≤_, _<_}
 use mathlib.Core.Path.{_≡_, refl}

@@ -2,26 +2,26 @@
 -- closed on the board, and winds where it winds; what is connected on the board is connected there; and where no open vertex grows, the
 -- supports grow alike. So laws of boards without open vertices serve for all boards.
 -- Assumes nothing.
-use Prim.Native.Nat.{ℕ, zero, suc, _+_, _*_, _≤_, _<_, min}
+use Prim.Native.Nat.{ℕ, zero, suc, _+_, _*_, _<_, min}
 use mathlib.Core.Path.{_≡_, refl, sym, ap, ap₂, _∙_, subst}
-use mathlib.Core.Bool.{Bool, true, false, cond, not, _&&_, and-false, true≢false, false≢true}
+use mathlib.Core.Bool.{Bool, true, false, cond, not, _&&_, and-false, true≢false}
 use mathlib.Core.List.{List}
 use mathlib.Core.Option.{Option, none, some}
 use native.Mathlib.Omega.{arith}
-use borrow.Author.Tests.{eqb-true, eqb-false, eq-eqb, ne-eqb}
+use borrow.Author.Tests.{eqb-true, eqb-false, ne-eqb}
 use lib.ListN.{length, getD}
 use lib.Dec.{eqb}
-use Rattle.model.specs.Sums.{Set, _⊕_, bit, oddUpTo, firstUpTo, values}
+use Rattle.model.specs.Sums.{Set, _⊕_, bit, oddUpTo, firstUpTo}
 use Rattle.model.specs.Board.{Board, Inside, Valid, edges, firstEnd, secondEnd, isOpen}
-use Rattle.model.specs.Syndrome.{meets, oddEnd, syndrome, HasOddEnds}
+use Rattle.model.specs.Syndrome.{meets, oddEnd, syndrome}
 use Rattle.model.specs.Winding.{closed, crossings, winds, size}
-use Rattle.model.specs.Growth.{start, full, swell}
+use Rattle.model.specs.Growth.{swell}
 use Rattle.model.specs.Demand3.{EveryLoopAbove}
 use Rattle.model.specs.Distance.{fewestFrom, fewest, lesser, with}
 use Rattle.model.specs.Identified.{orZero, gate, glued, gluedEnds, identified}
 use Rattle.model.specs.Outcomes.{ShowsLoop}
-use Rattle.model.proofs.Xor.{not-true-false, xor-self}
-use Rattle.model.proofs.SumLaws.{odd-cong, odd-none, First, first-found, none-first, some-cong}
+use Rattle.model.proofs.Xor.{not-true-false}
+use Rattle.model.proofs.SumLaws.{odd-cong, odd-none, First, first-found, none-first}
 use Rattle.model.proofs.ListLaws.{length-values, getD-values, values-cong}
 use Rattle.model.proofs.OpenBytes.{zeros-valid}
 use Rattle.theory.proofs.OddMembers.{odd-one}

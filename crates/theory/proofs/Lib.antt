@@ -10,6 +10,7 @@ pub mod Forests
 pub mod Existence
 pub mod Corrections
 pub mod OddEnds
+pub mod WithoutOpen
 pub mod SmallestOdd
 pub mod NoCorrection
 pub mod WeightedGrowth

@@ -1,5 +1,6 @@
--- From walks to sets, on a board without open vertices: where every closed walk of at most k edges is unmarked, every winding loop has more than k edges. The edges of a
--- small closed set are inserted one by one, each for 1, from clusters of one vertex each. Assumes nothing.
+-- From walks to sets, on a board without open vertices: where every closed walk of at most k edges is unmarked, every winding loop has
+-- more than k edges. The edges of a small closed set are inserted one by one, each for 1, from clusters of one vertex each. Assumes
+-- nothing.
 use Prim.Native.Nat.{ℕ, _≤_, _<_}
 use mathlib.Core.Path.{_≡_, refl, sym, _∙_}
 use mathlib.Core.Bool.{Bool, true, false, false≢true}

@@ -1,6 +1,6 @@
 -- Document 02, K3: what may be relied on of a loop edge, whose two ends are one vertex. It adds nothing to any syndrome and is closed by
--- itself, is full or untouched at every step of the growth and of the rounds, and is in no forest and so in no correction; in t and s every edge counts,
--- loop edges too; and where one is marked, the distance is 1.
+-- itself, is full or untouched at every step of the growth and of the rounds, and is in no forest and so in no correction; in t and s
+-- every edge counts, loop edges too; and where one is marked, the distance is 1.
 -- Assumes nothing.
 use Prim.Native.Nat.{ℕ, zero, suc, _+_, _*_, _/_, _%_, _≤_, _<_, min}
 use mathlib.Core.Path.{_≡_, refl, sym, ap, ap₂, _∙_}

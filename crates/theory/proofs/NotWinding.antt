@@ -1,7 +1,7 @@
 -- Not winding: where every winding loop has more than t + 2s edges, a set E with the syndrome and any set C of full edges with the same
 -- syndrome do not wind together. In weighted growth one cluster grows at a time, and no open vertex is in it, so the books of Spreading
--- follow it on the identified board; what the growth bound leaves over pays for the edges of E that never became full. Nothing here rests on
--- which odd cluster grows.
+-- follow it on the identified board; what the growth bound leaves over pays for the edges of E that never became full. Nothing here rests
+-- on which odd cluster grows.
 -- Assumes nothing.
 use Prim.Native.Nat.{ℕ, suc, _+_, _*_, _≤_, _<_}
 use mathlib.Core.Path.{_≡_, refl, sym, ap, _∙_, subst}

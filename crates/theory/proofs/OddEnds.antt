@@ -11,11 +11,11 @@ use borrow.Author.Tests.{eqb-true, not-true, ltb-true, ltb-false}
 use lib.Dec.{eqb, ltb}
 use Rattle.model.specs.Sums.{Set, _⊕_, oddUpTo, someUpTo, firstUpTo, ones, bytes}
 use Rattle.model.specs.Board.{Board, Inside, Unlit, edges, isOpen}
-use Rattle.model.specs.Syndrome.{oddEnd, HasOddEnds, syndrome, HasSyndrome}
+use Rattle.model.specs.Syndrome.{HasOddEnds, syndrome, HasSyndrome}
 use Rattle.model.specs.Components.{label, labels, within}
 use Rattle.model.specs.Growth.{oddlyLit, holdsOpen}
 use Rattle.model.specs.Forest.{forest}
-use Rattle.model.specs.Correction.{spanned, outlet, oddEnds, correction}
+use Rattle.model.specs.Correction.{outlet, oddEnds, correction}
 use Rattle.model.proofs.Xor.{xor-false, xor-and, and-left, and-right, and-both, not-true-false}
 use Rattle.model.proofs.SumLaws.{odd-cong, odd-xor, odd-and, some-found, some-none, none-some, some-cong, First, first-found, none-first}
 use Rattle.model.proofs.ListLaws.{ones-bytes}

@@ -1,6 +1,6 @@
 -- The numbers of rounds: every vertex has a number, 0 or 1, which is one number on each cluster, and an edge that is not full has as many
--- half-edges as the numbers of its ends add up to. A round turns the numbers of the odd clusters over. So all odd clusters have one number, that
--- of the rounds so far modulo 2.
+-- half-edges as the numbers of its ends add up to. A round turns the numbers of the odd clusters over. So all odd clusters have one
+-- number, that of the rounds so far modulo 2.
 -- Assumes nothing.
 use Prim.Native.Nat.{ℕ, _+_, _<_, min}
 use mathlib.Core.Path.{_≡_, refl, sym, ap, ap₂, _∙_}
@@ -45,8 +45,8 @@ start-numbered B S lost =
     go true p = absurd (true≢false p)
     go false p = refl
 
--- What a round makes of an edge that is not full: x and y are the numbers of its ends, a and b say which of them grow. It becomes full, and its
--- ends have one number then; or it has as many half-edges as the new numbers add up to.
+-- What a round makes of an edge that is not full: x and y are the numbers of its ends, a and b say which of them grow. It becomes full,
+-- and its ends have one number then; or it has as many half-edges as the new numbers add up to.
 turned : (x y a b : Bool) → (a ≡ true → b ≡ true → x ≡ y) → (bit x + bit y ≡ 2 → ⊥)
     → ((min 2 (bit x + bit y + bit a + bit b) ≡ 2) × (x ⊕ a ≡ y ⊕ b)) ⊎ (min 2 (bit x + bit y + bit a + bit b) ≡ bit (x ⊕ a) + bit (y ⊕ b))
 turned false false false false same open-edge = inr refl

@@ -1,5 +1,5 @@
--- A round as growths of its odd clusters, one after the other by rising label: at its turn each is still an odd cluster by itself, since the
--- numbers of rounds let no full edge leave it before.
+-- A round as growths of its odd clusters, one after the other by rising label: at its turn each is still an odd cluster by itself, since
+-- the numbers of rounds let no full edge leave it before.
 -- Assumes nothing.
 use Prim.Native.Nat.{ℕ, zero, suc, _+_, _≤_, _<_, min}
 use mathlib.Core.Path.{_≡_, refl, sym, ap, _∙_, subst}

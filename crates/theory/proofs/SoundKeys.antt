@@ -1,5 +1,6 @@
--- What a decoding owes to the syndrome (model, SoundKey), for any policy that feeds odd clusters and any type of answer: "no correction" exactly
--- when no set of edges has the syndrome; otherwise the correction has it, lies inside the full edges, and there are at most 2s growths.
+-- What a decoding owes to the syndrome (model, SoundKey), for any policy that feeds odd clusters and any type of answer: "no correction"
+-- exactly when no set of edges has the syndrome; otherwise the correction has it, lies inside the full edges, and there are at most 2s
+-- growths.
 -- Assumes nothing.
 use Prim.Native.Nat.{ℕ, _*_, _≤_, _<_}
 use mathlib.Core.Path.{_≡_, refl, sym, _∙_}

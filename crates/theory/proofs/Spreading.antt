@@ -144,8 +144,8 @@ spread-books B r T short lost c =
     next s g a R part before few =
         rw (add-suc (lostEdges B lost) g) (swell-books B r T short s (lostEdges B lost + g) a R part (omega arith) (before (omega arith)))
 
--- A closed set of full edges and of others, which are left, does not wind where every winding loop has more than T edges, and the lost edges,
--- the growths and the edges left are together no more.
+-- A closed set of full edges and of others, which are left, does not wind where every winding loop has more than T edges, and the lost
+-- edges, the growths and the edges left are together no more.
 pub spread-unwound : (B : Board) → Inside B → Sealed B → (lost : Set) {s : List ℕ} {g : ℕ} → Spread B lost s g → (T : ℕ) → EveryLoopAbove B T
     → (D left : Set) → Closed B D → ((e : ℕ) → e < edges B → D e ≡ true → full s e ≡ false → left e ≡ true)
     → lostEdges B lost + g + size B left ≤ T → winds B D ≡ false

@@ -7,7 +7,8 @@ use mathlib.Core.Path.{_≡_}
 use Rattle.model.specs.Sums.{ones}
 use Rattle.model.specs.Board.{Board, Sheet, Inside, ValidBytes, ValidSheet, Unlit, edges}
 
--- the ends lie on the board, each vertex has an open byte, every byte of the syndrome and of the two sets is 0 or 1, and no open vertex is lit
+-- the ends lie on the board, each vertex has an open byte, every byte of the syndrome and of the two sets is 0 or 1, and no open vertex is
+-- lit
 pub record Judgeable (B : Board) (syndrome handed correction : List ℕ) : Type 0 where
   pub inside : Inside B
   pub open-bytes : length (B .opened) ≡ B .vertices

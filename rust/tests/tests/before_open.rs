@@ -3,7 +3,7 @@
 //! `before_open.txt` has what was answered before boards had open vertices: for each group of the
 //! sheets drawn here one line, with a sum over the sheets and a sum over all answers and all that was
 //! written. The loop that the distance shows is left out, since which one it is was always free. The
-//! answers stored are those of the plain decoder of that state, which the library agreed with.
+//! answers stored are those of the library as it was then.
 
 use std::fmt::Write;
 

@@ -1,5 +1,5 @@
--- `parts::first_odd` meets its contract: there are an open byte and a syndrome byte for each vertex, so the parities, and what is cleared of
--- them, are those of all vertices. Assumes nothing.
+-- `parts::first_odd` meets its contract: there are an open byte and a syndrome byte for each vertex, so the parities, and what is cleared
+-- of them, are those of all vertices. Assumes nothing.
 use borrow.Author.Needs.{needs}
 use Rattle.parts.proofs.Marking.{first-odd}
 use Rattle.parts.proofs.first_odd.Statement.{statement}

@@ -1,4 +1,5 @@
--- `board::tests::check_verdict` meets its contract: the tests up to 8 decide, or else test 9, or else those of the open bytes. Assumes nothing.
+-- `board::tests::check_verdict` meets its contract: the tests up to 8 decide, or else test 9, or else those of the open bytes. Assumes
+-- nothing.
 use mathlib.Core.Path.{refl, sym, ap, _∙_}
 use borrow.Author.Needs.{needs}
 use denote.Ref.{now}

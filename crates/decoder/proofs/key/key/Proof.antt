@@ -1,7 +1,7 @@
 -- `key` meets its contract: number 10, or start, run, odd ends and peel. Assumes nothing.
 use borrow.Author.Needs.{needs}
 use mathlib.Core.Path.{sym}
-use Rattle.decoder.proofs.Keying.{searchable, shows-odd, startable, runnable, rooted-there, markable, front-fits, front-long, peelable, keyed}
+use Rattle.decoder.proofs.Keying.{searchable, shows-odd, startable, runnable, rooted-there, markable, front-long, peelable, keyed}
 use Rattle.decoder.proofs.key.key.Statement.{statement}
 use Rattle.decoder.proofs.key.key.Tie as tie
 

@@ -1,4 +1,5 @@
--- `text::stage::take_line` meets its contract: the first line begins a sheet, and a later one is stored where it may stand. Assumes nothing.
+-- `text::stage::take_line` meets its contract: the first line begins a sheet, and a later one is stored where it may stand. Assumes
+-- nothing.
 use mathlib.Core.Path.{sym, subst, _∙_}
 use borrow.Author.Needs.{needs}
 use borrow.Author.Tests.{not-true, not-false}
