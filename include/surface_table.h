@@ -114,6 +114,7 @@ static inline const char *surface_refusal_text(unsigned number)
     default: return "no refusal has this number";
     }
 }
+
 /* Bytes of stack that each call needs: what was measured, rounded up to a multiple of 4,096, and 4,096
  * more for memcpy and memset, all that the library asks of the C library. The calls of one thread don't
  * nest, so the largest of those that it makes is enough. */

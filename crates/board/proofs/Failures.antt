@@ -1,5 +1,5 @@
 -- The first failure of a list of rules, found in its parts. Assumes nothing.
-use mathlib.Core.Path.{_≡_, refl}
+use mathlib.Core.Path.{_≡_, refl, sym, ap, _∙_}
 use mathlib.Core.List.{List, [], _∷_, map}
 use mathlib.Core.Option.{none, some, Option·some-ne-none}
 use Rattle.model.specs.declared.refusal.Refusal.{Refusal}
@@ -39,3 +39,14 @@ passes-on t u r e g = rw (← e, g)
 
 pub passed : (t : Test) (r : Check) → testOf r ≡ t → r ≡ Passed → t ≡ none
 passed t r e g = rw (← e, g)
+
+-- The same of one rule and those after it.
+pub refuses-first : (R : Rule) (rs : List Rule) (r : Check) {n : Refusal} → testOf r ≡ refusalOf (R ∷ []) → r ≡ Failed n → refusalOf (R ∷ rs) ≡ some n
+refuses-first R rs r {n} e g = go (tested R) (sym (ap testOf g) ∙ e)
+  where
+    go : (t : Test) → some n ≡ firstFailure (t ∷ []) → firstFailure (t ∷ map tested rs) ≡ some n
+    go none q = absurd (Option·some-ne-none n q)
+    go (some k) q = sym q
+
+pub passes-first : (R : Rule) (rs : List Rule) (r : Check) → testOf r ≡ refusalOf (R ∷ []) → r ≡ Passed → refusalOf (R ∷ rs) ≡ refusalOf rs
+passes-first R rs r e g = rw (each-passes (R ∷ []) (passed _ r e g) .0)

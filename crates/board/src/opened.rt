@@ -46,8 +46,8 @@ pub fn check_open(opened: &[u8], syndrome: &[u8]) -> Check
     ensures { λ r.
         ⌜ testOf r ≡ refusalOf (openRule (before opened) ∷ litOpenRule (before opened) (before syndrome) ∷ []) ⌝ }
 {
-    if let FoundVertex::At(v) = vertex_above(opened, 1) {
-        return Check::Failed(Refusal::OpenByte(v));
+    if let Check::Failed(refusal) = check_open_bytes(opened) {
+        return Check::Failed(refusal);
     }
     if let FoundVertex::At(v) = first_lit_open(opened, syndrome) {
         return Check::Failed(Refusal::LitOpen(v));
