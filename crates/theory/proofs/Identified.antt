@@ -47,9 +47,6 @@ module _ (B : Board) where
   pub glued-shut : (v : ℕ) → isOpen B v ≡ false → glued B v ≡ v
   glued-shut v p = rw p
 
-  pub glued-open : (v : ℕ) → isOpen B v ≡ true → glued B v ≡ gate B
-  glued-open v p = rw p
-
   pub glued-below : (v : ℕ) → v < B .vertices → glued B v < B .vertices
   glued-below v h = go (isOpen B v) refl
     where

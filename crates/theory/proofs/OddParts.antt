@@ -11,7 +11,7 @@ use Rattle.model.specs.Syndrome.{HasSyndrome}
 use Rattle.model.specs.Components.{within}
 use Rattle.model.specs.Growth.{oddlyLit, holdsOpen, odd}
 use Rattle.model.proofs.Xor.{and-left, and-right, and-both, not-true-false}
-use Rattle.model.proofs.SumLaws.{odd-cong, some-none, none-some, some-here, some-cong}
+use Rattle.model.proofs.SumLaws.{odd-cong, some-none, none-some, some-cong}
 use Rattle.theory.proofs.Syndromes.{Avoids, Sealed, cut-syndrome}
 
 -- it rests on which vertices lie in the part
@@ -31,11 +31,6 @@ module _ (B : Board) (l : List ℕ) where
         shut = λ v h i. not-true-false (isOpen B v)
             (λ o. true≢false (sym (and-both (isOpen B v) (within l a v) o i) ∙ some-none (B .vertices) (λ v. isOpen B v && within l a v) p v h));
       }
-
-  -- one with an open vertex holds one
-  pub holds-open : (a v : ℕ) → v < B .vertices → isOpen B v ≡ true → within l a v ≡ true → holdsOpen B l a ≡ true
-  unfolding holdsOpen
-  holds-open a v h o i = some-here (B .vertices) v (λ v. isOpen B v && within l a v) h (and-both (isOpen B v) (within l a v) o i)
 
   -- where no vertex is open, none holds one, and to be odd is to be oddly lit
   pub sealed-holds : Sealed B → (a : ℕ) → holdsOpen B l a ≡ false
