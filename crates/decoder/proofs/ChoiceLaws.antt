@@ -1,80 +1,64 @@
--- From the figures by label to document 01's choice: the labels of the trees are the clusters' labels, the counts by label are their
--- parities and boundary sizes, and the first of the least is the cluster that grows.
--- Assumes nothing.
-use Prim.Native.Nat.{ℕ, zero, suc, _≤_, _<_}
-use mathlib.Core.Path.{_≡_, refl, sym, _∙_, subst}
-use mathlib.Core.Bool.{Bool, true, false, cond, _&&_, and-comm}
+-- From the kept figures to document 01's choice: the figures below 2,048 are the boundary sizes of the odd clusters, and the first of the least
+-- is the cluster that grows. Assumes nothing.
+use Prim.Native.Nat.{ℕ, zero, suc, _%_, _≤_, _<_}
+use mathlib.Core.Path.{_≡_, refl, sym, _∙_}
+use mathlib.Core.Bool.{Bool, true, false, cond, _&&_}
 use mathlib.Core.List.{List}
 use mathlib.Core.Option.{Option, none, some}
+use native.Mathlib.Decide.{ℕ-discrete}
 use native.Mathlib.Nat.{le-refl}
 use native.Mathlib.Omega.{arith}
-use lib.ListN.{length, take, length-replicate, length-take}
-use lib.Seq.{getD-take}
+use borrow.Author.Tests.{le-ltb}
 use lib.Dec.{ltb}
-use Rattle.model.specs.Sums.{Set, ones}
-use Rattle.model.specs.Board.{Board, unmarked, vertexLimit}
-use Rattle.model.specs.Components.{labels, within}
-use Rattle.model.specs.Growth.{full, clusters, odd, exposed, boundary, better, choiceUpTo, choice}
-use Rattle.model.proofs.SumLaws.{count-cong}
-use Rattle.model.proofs.Bits.{eqb-bit}
-use Rattle.theory.proofs.MarksAside.{unmarked-inside}
-use Rattle.decoder.proofs.TreeLabelLaws.{names-labels}
-use Rattle.decoder.specs.TreeLabels.{Names}
-use Rattle.decoder.specs.Tallies.{Tallied, Tallies}
-use Rattle.decoder.specs.Exposures.{Exposures, exposedUpTo}
-use Rattle.decoder.proofs.Tallying.{tally-bound}
-use Rattle.decoder.proofs.OpenAside.{mirrors-open}
-use Rattle.decoder.proofs.OddCounting.{Agree, counts-odd}
-use Rattle.decoder.specs.OddCounts.{Counted, OddCounts}
-use Rattle.decoder.specs.Choices.{oddAt, sizeAt, lesser, leastUpTo, Sized, Choosable, chosenCluster}
+use Rattle.model.specs.Sums.{Set}
+use Rattle.model.specs.Board.{Board, Inside, vertexLimit}
+use Rattle.model.specs.Components.{label, within}
+use Rattle.model.specs.Growth.{full, clusters, oddlyLit, holdsOpen, odd, exposed, boundary, better, choiceUpTo, choice}
+use Rattle.model.proofs.SumLaws.{count-bound}
+use Rattle.model.proofs.Xor.{not-true-false}
+use Rattle.theory.proofs.WeightedGrowth.{odd-named}
+use Rattle.union_find.specs.Trees.{at}
+use Rattle.decoder.specs.Figures.{evenMark, oddFigure, Leads, Figured}
+use Rattle.decoder.specs.Choices.{lesser, leastUpTo}
+use Rattle.decoder.proofs.FigureLaws.{figure-odd, figure-size, figure-is-size}
 
--- The counts
+-- The first of the least
 
--- the count of exposed vertices is the boundary size
-pub tally-boundary : (n m : ℕ) (ends opened s l l′ marks counts : List ℕ) → n ≤ vertexLimit → Agree n l l′ → Exposures m ends s marks → Tallies n l (take n marks) counts
-    → (a : ℕ) → a < vertexLimit → sizeAt counts a ≡ boundary (unmarked n m ends opened) s l′ a
-unfolding boundary exposed
-tally-boundary n m ends opened s l l′ marks counts few same e t a h =
-    t .at a h ∙ count-cong n (λ v. ones (take n marks) v && within l a v) _ each
-  where
-    each : (v : ℕ) → v < n → (ones (take n marks) v && within l a v) ≡ (within l′ a v && exposed (unmarked n m ends opened) s v)
-    each v i =
-        rw (getD-take n marks v 0 i, e .at v (omega arith), eqb-bit (exposedUpTo m ends s v), same .at v i, length-replicate {A = ℕ} m 0)
-        (and-comm (exposedUpTo m ends s v) (within l′ a v))
+-- what is chosen below k is below k, and in f
+abbrev Fit : ℕ → Set → Option ℕ → Type 0
+Fit k f none = Unit {0}
+Fit k f (some c) = (c < k) × (f c ≡ true)
 
--- The choice
-
--- what is chosen below k is below k
-abbrev Below : ℕ → Option ℕ → Type 0
-Below k none = Unit {0}
-Below k (some c) = c < k
-
-least-below : (k : ℕ) (f : Set) (x : ℕ → ℕ) → Below k (leastUpTo k f x)
+least-fit : (k : ℕ) (f : Set) (x : ℕ → ℕ) → Fit k f (leastUpTo k f x)
 unfolding leastUpTo
-least-below zero f x = tt
-least-below (suc k) f x = go (leastUpTo k f x) (least-below k f x)
+least-fit zero f x = tt
+least-fit (suc k) f x = go (leastUpTo k f x) (least-fit k f x) (f k) refl
   where
-    either : (t : Bool) (c : ℕ) → c < suc k → Below (suc k) (cond t (some k) (some c))
-    either true c h = le-refl _
-    either false c h = h
+    either : (t : Bool) (c : ℕ) → f k ≡ true → (c < suc k) × (f c ≡ true) → Fit (suc k) f (cond t (some k) (some c))
+    either true c p h = (le-refl _, p)
+    either false c p h = h
 
-    go : (o : Option ℕ) → Below k o → Below (suc k) (lesser f x k o)
-    go none h = first (f k)
-      where
-        first : (t : Bool) → Below (suc k) (cond t (some k) none)
-        first true = le-refl _
-        first false = tt
-    go (some c) h = either (f k && ltb (x k) (x c)) c (omega arith)
+    go : (o : Option ℕ) → Fit k f o → (t : Bool) → f k ≡ t → Fit (suc k) f (lesser f x k o)
+    go none h true p = rw p (le-refl _, p)
+    go none h false p = rw p tt
+    go (some c) h true p = rw p (either (ltb (x k) (x c)) c p (omega (arith, h .0), h .1))
+    go (some c) h false p = rw p (omega (arith, h .0), h .1)
 
-least-cong : (k : ℕ) (f g : Set) (x y : ℕ → ℕ) → ((a : ℕ) → a < k → f a ≡ g a) → ((a : ℕ) → a < k → x a ≡ y a) → leastUpTo k f x ≡ leastUpTo k g y
+pub least-below : (k : ℕ) (f : Set) (x : ℕ → ℕ) (c : ℕ) → leastUpTo k f x ≡ some c → c < k
+least-below k f x c p = (rw p at (least-fit k f x)) .0
+
+-- only the sizes of what is in f matter
+least-cong : (k : ℕ) (f g : Set) (x y : ℕ → ℕ) → ((a : ℕ) → a < k → f a ≡ g a) → ((a : ℕ) → a < k → g a ≡ true → x a ≡ y a)
+    → leastUpTo k f x ≡ leastUpTo k g y
 unfolding leastUpTo
 least-cong zero f g x y p q = refl
 least-cong (suc k) f g x y p q =
-    rw (least-cong k f g x y (λ a h. p a (omega arith)) (λ a h. q a (omega arith))) (go (leastUpTo k g y) (least-below k g y))
+    rw (least-cong k f g x y (λ a h. p a (omega arith)) (λ a h. q a (omega arith))) (go (leastUpTo k g y) (least-fit k g y) (g k) refl)
   where
-    go : (o : Option ℕ) → Below k o → lesser f x k o ≡ lesser g y k o
-    go none h = rw (p k (le-refl _))
-    go (some c) h = rw (p k (le-refl _), q k (le-refl _), q c (omega arith))
+    go : (o : Option ℕ) → Fit k g o → (t : Bool) → g k ≡ t → lesser f x k o ≡ lesser g y k o
+    go none h t r = rw (p k (le-refl _))
+    go (some c) h true r = rw (p k (le-refl _), q k (le-refl _) r, q c (omega (arith, h .0)) (h .1))
+    go (some c) h false r = rw (p k (le-refl _), r)
 
 -- the first of the least is the cluster that document 01 chooses
 least-choice : (B : Board) (s l : List ℕ) (S : Set) (k : ℕ) → leastUpTo k (odd B l S) (boundary B s l) ≡ choiceUpTo B s l S k
@@ -86,43 +70,46 @@ least-choice B s l S (suc a) = rw (least-choice B s l S a) (go (choiceUpTo B s l
     go none = refl
     go (some c) = refl
 
-pub least-is-choice : (B : Board) (s l : List ℕ) (S : Set) (lit sizes : List ℕ) → B .vertices ≤ vertexLimit
-    → ((a : ℕ) → a < vertexLimit → oddAt lit a ≡ odd B l S a) → ((a : ℕ) → a < vertexLimit → sizeAt sizes a ≡ boundary B s l a)
-    → leastUpTo (B .vertices) (oddAt lit) (sizeAt sizes) ≡ choice B s l S
-unfolding choice
-least-is-choice B s l S lit sizes few p q =
-    least-cong (B .vertices) (oddAt lit) (odd B l S) (sizeAt sizes) (boundary B s l) (λ a h. p a (omega arith)) (λ a h. q a (omega arith))
-    ∙ least-choice B s l S (B .vertices)
+-- What the figures say
 
--- The figures of the clusters on a lent board
+module _ (B : Board) (S : Set) (s l figure : List ℕ) (few : B .vertices ≤ vertexLimit) (w : Figured B S s l figure) where
+  boundary-small : (a : ℕ) → boundary B s l a < evenMark
+  unfolding boundary
+  boundary-small a = omega (arith, count-bound (B .vertices) (λ v. within l a v && exposed B s v))
 
-pub taken-length : {n m : ℕ} {ends s marks : List ℕ} → n ≤ vertexLimit → Exposures m ends s marks → n ≡ length (take n marks)
-taken-length {n} {marks = marks} few e = omega (arith, length-take n marks, e .long)
+  -- K6: with each cluster its boundary size is kept
+  pub kept-boundary : (a : ℕ) → Leads (B .vertices) l a → at figure a % evenMark ≡ boundary B s l a
+  kept-boundary a lead = rw (w .kept .named a lead) (figure-size (boundary B s l a) (boundary-small a) (oddlyLit B l S a) (holdsOpen B l a))
 
-pub names-tallied : {n k : ℕ} {p labels : List ℕ} → n ≤ vertexLimit → n ≡ k → Names n p labels → Tallied k labels
-names-tallied few q names = record { few = omega arith; inside = λ v h. omega (arith, names .each v (omega arith) .below) }
+  -- .. and whether it is odd
+  pub kept-odd : (a : ℕ) → Leads (B .vertices) l a → oddFigure figure a ≡ odd B l S a
+  unfolding odd
+  kept-odd a lead = rw (w .kept .named a lead) (figure-odd (boundary B s l a) (boundary-small a) (oddlyLit B l S a) (holdsOpen B l a))
 
--- the open bytes are as many as the syndrome bytes
-pub names-counted : {n : ℕ} {p labels opened syndrome : List ℕ} → n ≤ vertexLimit → length opened ≡ n → length syndrome ≡ n → Names n p labels
-    → Counted labels opened syndrome
-names-counted few q q′ names = record { labelled = names-tallied few (sym q′) names; open-bytes = q ∙ sym q′ }
+  -- the figure of an odd cluster is its boundary size
+  odd-size : (a : ℕ) → Leads (B .vertices) l a → odd B l S a ≡ true → at figure a ≡ boundary B s l a
+  unfolding odd
+  odd-size a lead p = w .kept .named a lead ∙ figure-is-size (boundary B s l a) (oddlyLit B l S a) (holdsOpen B l a) p
 
-pub tallies-sized : {n k : ℕ} {labels members sizes : List ℕ} → n ≤ vertexLimit → n ≡ k → Tallies k labels members sizes → Sized n sizes
-tallies-sized few q t = record { few = few; small = λ a h. omega (arith, tally-bound t a (omega arith)) }
+module _ (B : Board) (S : Set) (s figure : List ℕ) (few : B .vertices ≤ vertexLimit) (r : Inside B) (w : Figured B S s (clusters B s) figure) where
+  abbrev own : List ℕ
+  own = clusters B s
 
-module _ (n : ℕ) (p ends opened syndrome s : List ℕ) (w : Choosable n p ends opened syndrome s) where
-  abbrev board : Board
-  board = unmarked n (length s) ends opened
-
-  agrees : {labels : List ℕ} → Names n p labels → Agree n labels (clusters board s)
+  leads-odd : (a : ℕ) → a < B .vertices → odd B own S a ≡ true → Leads (B .vertices) own a
   unfolding clusters
-  agrees names = record { at = names-labels board (full s) (unmarked-inside (w .lent)) (mirrors-open n (length s) ends opened s (w .mirrors)) names }
+  leads-odd a h p = record { below = h; own = odd-named B (full s) S r a (record { below = h; is-odd = p }) }
 
-  pub chooses : {labels lit marks sizes : List ℕ} → Names n p labels → OddCounts (length syndrome) labels opened syndrome lit → Exposures (length s) ends s marks
-      → Tallies (length (take n marks)) labels (take n marks) sizes
-      → leastUpTo n (oddAt lit) (sizeAt sizes) ≡ chosenCluster n ends opened syndrome s
-  chooses {labels} {lit} {marks} {sizes} names odds e bounds =
-      least-is-choice board s (clusters board s) (ones syndrome) lit sizes (w .lent .vertex-limit)
-      (counts-odd board labels (clusters board s) syndrome lit (agrees names) (subst (λ k. OddCounts k labels opened syndrome lit) (w .lit) odds))
-      (tally-boundary n (length s) ends opened s labels (clusters board s) marks sizes (w .lent .vertex-limit) (agrees names) e
-      (subst (λ k. Tallies k labels (take n marks) sizes) (sym (taken-length (w .lent .vertex-limit) e)) bounds))
+  odd-kept : (a : ℕ) → a < B .vertices → oddFigure figure a ≡ odd B own S a
+  odd-kept a h = elim (ℕ-discrete (label own a) a) [
+    | yes q ↦ kept-odd B S s own figure few w a (record { below = h; own = q })
+    | no q ↦
+        le-ltb (at figure a) evenMark (omega (arith, w .kept .others a (omega arith) (λ lead. q (lead .own))))
+        ∙ sym (not-true-false (odd B own S a) (λ p. q (leads-odd a h p .own)))
+  ]
+
+  pub figures-choose : leastUpTo (B .vertices) (oddFigure figure) (at figure) ≡ choice B s own S
+  unfolding choice
+  figures-choose =
+      least-cong (B .vertices) (oddFigure figure) (odd B own S) (at figure) (boundary B s own) odd-kept
+      (λ a h p. odd-size B S s own figure few w a (leads-odd a h p) p)
+      ∙ least-choice B s own S (B .vertices)

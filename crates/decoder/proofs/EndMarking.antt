@@ -20,9 +20,7 @@ use Rattle.model.proofs.Xor.{xor-false, and-left, and-right}
 use Rattle.model.proofs.SumLaws.{below-suc}
 use Rattle.model.proofs.CountLaws.{count-parity}
 use Rattle.decoder.specs.Tallies.{Tallies}
-use Rattle.decoder.specs.Choices.{oddAt}
-use Rattle.decoder.specs.OddCounts.{vertexBoard, openAt}
-use Rattle.decoder.specs.OddEnds.{MarksEnds}
+use Rattle.decoder.specs.OddEnds.{vertexBoard, openAt, oddAt, MarksEnds}
 
 module _ (n : ℕ) (labels opened syndrome : List ℕ) where
   abbrev B : Board

@@ -1,5 +1,5 @@
 -- The listed edges fused one after the other: the book is that of the parts by the edges it had and the listed edges passed.
--- Assumes nothing.
+-- What is kept of them is true still. Assumes nothing.
 use Prim.Native.Nat.{ℕ, suc, _+_, _*_, _<_}
 use mathlib.Core.Path.{_≡_, refl, sym, _∙_}
 use mathlib.Core.Bool.{_&&_, _||_, or-false, or-assoc}
@@ -8,15 +8,14 @@ use native.Mathlib.Nat.{le-refl}
 use native.Mathlib.Omega.{arith}
 use lib.ListN.{getD, length-replicate}
 use lib.Dec.{eqb}
-use Rattle.model.specs.Board.{plain}
+use Rattle.model.specs.Board.{unmarked}
 use Rattle.model.specs.Sums.{Set, someUpTo}
 use Rattle.model.specs.Components.{label}
 use Rattle.theory.proofs.Components.{labels-cong}
 use Rattle.union_find.specs.Joining.{sameRoot, Mirrors}
 use Rattle.decoder.specs.declared.book.Book.{Book}
-use Rattle.decoder.specs.declared.book.Fused.{Fused}
-use Rattle.decoder.specs.Gains.{listed}
-use Rattle.decoder.specs.Books.{Good, BothKept, Fuses, withListed, Fusable, FusesListed}
+use Rattle.decoder.specs.Gains.{listed, withListed}
+use Rattle.decoder.specs.Books.{Good, KeepsTrue, Unites, FusesListed}
 use Rattle.theory.proofs.MarksAside.{unmarked-inside}
 use Rattle.theory.proofs.JoinedLabels.{joinedBy, Adds, added-edge}
 
@@ -24,9 +23,11 @@ pub fuse-none : (b : Book) (ends filled : List ℕ) → Good b → FusesListed b
 unfolding someUpTo
 fuse-none b ends filled good =
     record {
-      vertices = refl;
       good = good;
-      each = λ m F lent small mirrors. rw (labels-cong (plain (b .vertices) m ends) (withListed F 0 filled) F (λ e h. or-false (F e))) mirrors;
+      vertices = refl;
+      each = λ m opened F lent small mirrors.
+          rw (labels-cong (unmarked (b .vertices) m ends opened) (withListed F 0 filled) F (λ e h. or-false (F e))) mirrors;
+      true-still = record { figures = λ B S s q h. h };
     }
 
 -- what fusing says of roots, said of labels
@@ -34,29 +35,26 @@ mirrored : {n : ℕ} {p l : List ℕ} → Mirrors n p l → (u v x y : ℕ) → 
     → (sameRoot p u v || ((sameRoot p u x || sameRoot p u y) && (sameRoot p v x || sameRoot p v y))) ≡ joinedBy (label l x) (label l y) (label l u) (label l v)
 mirrored m u v x y hu hv hx hy = rw (m .same u v hu hv, m .same u x hu hx, m .same u y hu hy, m .same v x hv hx, m .same v y hv hy)
 
+-- from book to book
+pub keeps-on : (a b c : Book) → b .vertices ≡ a .vertices → KeepsTrue a b → KeepsTrue b c → KeepsTrue a c
+keeps-on a b c same one two = record { figures = λ B S s q h. two .figures B S s (q ∙ sym same) (one .figures B S s q h) }
+
 module _ (b : Book) (ends filled : List ℕ) (k : ℕ) (now : Book) (w : FusesListed b ends filled k now) where
-  -- the next listed edge may be fused
-  pub next-kept : (count : ℕ) → k < count → Fusable b ends filled count → (x y : ℕ) → x ≡ getD ends (2 * getD filled k 0) 0 → y ≡ getD ends (2 * getD filled k 0 + 1) 0 → BothKept now x y
-  next-kept count h f x y p q =
-      record {
-        good = w .good;
-        first = omega (arith, w .vertices, f .lent .first-in-range (getD filled k 0) (f .listed k h));
-        second = omega (arith, w .vertices, f .lent .second-in-range (getD filled k 0) (f .listed k h));
-      }
-
   -- the set with one more listed edge
-  adds : (m : ℕ) (F : Set) → getD filled k 0 < m → Adds (plain (b .vertices) m ends) (withListed F k filled) (getD filled k 0) (withListed F (suc k) filled)
+  adds : (m : ℕ) (opened : List ℕ) (F : Set) → getD filled k 0 < m → Adds (unmarked (b .vertices) m ends opened) (withListed F k filled) (getD filled k 0) (withListed F (suc k) filled)
   unfolding someUpTo
-  adds m F h = record { edge = omega (arith, length-replicate {A = ℕ} m 0); each = λ i l. sym (or-assoc (F i) (listed k filled i) (eqb (getD filled k 0) i)) }
+  adds m opened F h = record { edge = omega (arith, length-replicate {A = ℕ} m 0); each = λ i l. sym (or-assoc (F i) (listed k filled i) (eqb (getD filled k 0) i)) }
 
-  pub fuse-next : (x y : ℕ) (r : Fused) → x ≡ getD ends (2 * getD filled k 0) 0 → y ≡ getD ends (2 * getD filled k 0 + 1) 0 → Fuses now x y r → FusesListed b ends filled (suc k) (r .book)
-  fuse-next x y r p q f =
+  -- the next listed edge's ends as one
+  pub fuse-next : (x y : ℕ) (after : Book) → x ≡ getD ends (2 * getD filled k 0) 0 → y ≡ getD ends (2 * getD filled k 0 + 1) 0 → Unites now x y after
+      → FusesListed b ends filled (suc k) after
+  fuse-next x y after p q f =
       record {
-        vertices = f .vertices ∙ w .vertices;
         good = f .good;
-        each = λ m F lent small mirrors.
+        vertices = f .vertices ∙ w .vertices;
+        each = λ m opened F lent small mirrors.
             let e = small k (le-refl _) in
-            let old = w .each m F lent (λ i h. small i (omega arith)) mirrors in
+            let old = w .each m opened F lent (λ i h. small i (omega arith)) mirrors in
             let a : x < b .vertices = omega (arith, lent .first-in-range (getD filled k 0) e) in
             let c : y < b .vertices = omega (arith, lent .second-in-range (getD filled k 0) e) in
             record {
@@ -64,6 +62,7 @@ module _ (b : Book) (ends filled : List ℕ) (k : ℕ) (now : Book) (w : FusesLi
                   f .one u v (omega (arith, w .vertices)) (omega (arith, w .vertices))
                   ∙ mirrored old u v x y hu hv a c
                   ∙ rw (p, q)
-                  (sym (added-edge (plain (b .vertices) m ends) (unmarked-inside lent) (withListed F k filled) (getD filled k 0) (withListed F (suc k) filled) (adds m F e) u v hu hv));
+                  (sym (added-edge (unmarked (b .vertices) m ends opened) (unmarked-inside lent) (withListed F k filled) (getD filled k 0) (withListed F (suc k) filled) (adds m opened F e) u v hu hv));
             };
+        true-still = keeps-on b now after (w .vertices) (w .true-still) (f .true-still);
       }

@@ -1,49 +1,156 @@
--- The full edges joined one after the other: the trees mirror the labels by the full edges passed. Assumes nothing.
+-- The start: every vertex alone with its own figure, then the full edges fused one after the other, so that the trees mirror the labels by
+-- the full edges passed. Assumes nothing.
 use Prim.Native.Nat.{ℕ, suc, _+_, _*_, _<_}
-use mathlib.Core.Path.{_≡_, refl, subst₂}
-use mathlib.Core.Bool.{true, false}
+use mathlib.Core.Path.{_≡_, sym, ap, _∙_, subst}
+use mathlib.Core.Logic.{_≢_}
+use mathlib.Core.Bool.{true, false, _&&_, and-false, and-true}
 use mathlib.Core.List.{List}
 use native.Mathlib.Omega.{arith}
-use lib.ListN.{getD, length-replicate}
-use Rattle.model.specs.Board.{plain}
-use Rattle.model.specs.Components.{labelsUpTo, labels}
-use Rattle.model.specs.Growth.{full, clusters}
+use borrow.Author.Tests.{eq-eqb, ne-eqb}
+use lib.ListN.{length, getD, length-replicate}
+use Rattle.model.specs.Sums.{Set, bit, ones}
+use Rattle.model.specs.Board.{Board, unmarked, isOpen}
+use Rattle.model.specs.Components.{label, within, labelsUpTo, labels}
+use Rattle.model.specs.Growth.{full, clusters, oddlyLit, holdsOpen, exposed, boundary}
+use Rattle.model.proofs.SumLaws.{some-one}
+use Rattle.model.proofs.CountLaws.{count-one}
 use Rattle.theory.proofs.Components.{labels-length}
-use Rattle.union_find.specs.declared.Joined.{Joined}
-use Rattle.union_find.specs.Trees.{Trees, Alone}
-use Rattle.union_find.specs.Joining.{Joins, Mirrors}
-use Rattle.union_find.proofs.Fresh.{alone-trees}
-use Rattle.union_find.proofs.Unions.{joins-trees}
-use Rattle.union_find.proofs.Labels.{mirrors-alone, mirrors-joined, mirrors-passed}
-use Rattle.decoder.specs.Books.{Holds}
+use Rattle.theory.proofs.OddMembers.{odd-one}
+use Rattle.theory.proofs.MarksAside.{unmarked-inside}
+use Rattle.union_find.specs.Trees.{at, rootOf}
+use Rattle.union_find.specs.Joining.{Mirrors}
+use Rattle.union_find.proofs.Fresh.{alone-root, alone-trees}
+use Rattle.union_find.proofs.Labels.{mirrors-alone, mirrors-united, mirrors-passed}
+use Rattle.decoder.specs.declared.book.Book.{Book}
+use Rattle.decoder.specs.Exposures.{counted}
+use Rattle.decoder.specs.Figures.{Lows, nameOf, names, Leads, Figured}
+use Rattle.decoder.specs.Books.{Good, TrueBook, ownLabels, KeepsTrue, Fresh, Gatherable, Unites}
+use Rattle.decoder.proofs.NameLaws.{names-label, names-are}
+use Rattle.decoder.proofs.EndCounts.{counted-exposed}
+use Rattle.decoder.proofs.Fusing.{keeps-on}
 
--- the full edges below k are joined
-pub record Gathering (n m : ℕ) (ends s : List ℕ) (k : ℕ) (parent size : List ℕ) : Type 0 where
-  pub trees : Trees n parent size
-  pub mirrors : Mirrors n parent (labelsUpTo (plain n m ends) (full s) k)
+-- the full edges below k are fused, from a fresh book on
+pub record Gathering (n : ℕ) (ends opened s : List ℕ) (fresh : Book) (k : ℕ) (now : Book) : Type 0 where
+  pub good : Good now
+  pub vertices : now .vertices ≡ n
+  pub mirrors : Mirrors n (now .parent) (labelsUpTo (unmarked n (length s) ends opened) (full s) k)
+  pub true-still : KeepsTrue fresh now
 
-module _ (n m : ℕ) (ends s : List ℕ) where
-  pub gather-none : {p q : List ℕ} → Alone n p q → Gathering n m ends s 0 p q
-  gather-none w = record { trees = alone-trees w; mirrors = mirrors-alone (plain n m ends) (full s) w }
+-- Every vertex alone
 
-  module _ (k : ℕ) {p q : List ℕ} (w : Gathering n m ends s k p q) where
-    -- a full edge joins its ends
-    pub gather-full : full s k ≡ true → (a b : ℕ) → a ≡ getD ends (2 * k) 0 → b ≡ getD ends (2 * k + 1) 0 → a < n → b < n
-        → {r : Joined} {p′ q′ : List ℕ} → Joins p q a b r p′ q′ → Gathering n m ends s (suc k) p′ q′
-    gather-full f a b is-a is-b ha hb {r} {p′} {q′} j =
-        let e = subst₂ (λ x y. Joins p q x y r p′ q′) is-a is-b j in
-        let hx : getD ends (2 * k) 0 < n = omega arith in
-        let hy : getD ends (2 * k + 1) 0 < n = omega arith in
+module _ (n : ℕ) (ends opened syndrome s x : List ℕ) (g : Gatherable n ends opened syndrome s x) (b : Book) (w : Fresh n opened syndrome x b) where
+  abbrev B : Board
+  B = unmarked n (length s) ends opened
+
+  abbrev S : Set
+  S = ones syndrome
+
+  own-name : (v : ℕ) → v < n → nameOf (b .parent) (b .low) v ≡ v
+  own-name v h = ap (at (b .low)) (alone-root (w .alone) v h) ∙ ap (λ z. at z v) (w .lows) ∙ w .alone .own v h
+
+  fresh-good : Good b
+  fresh-good =
+      rw (w .vertices)
+      record {
+        trees = alone-trees (w .alone);
+        lows = record {
+          long = rw (w .lows) (w .alone .room .parents);
+          below = λ v h. rw (own-name v h) (omega arith);
+          same = λ v h. ap (rootOf (b .parent)) (own-name v h);
+        };
+        figures-long = w .figures .long;
+      }
+
+  abbrev l : List ℕ
+  l = ownLabels b
+
+  own-label : (v : ℕ) → v < n → label l v ≡ v
+  own-label v h = rw (w .vertices) (names-label n (b .parent) (b .low) v h ∙ own-name v h)
+
+  alone-here : (a : ℕ) → a < n → within l a a ≡ true
+  alone-here a h = eq-eqb _ _ (own-label a h)
+
+  not-here : (a v : ℕ) → v < n → v ≢ a → within l a v ≡ false
+  not-here a v h q = ne-eqb _ _ (λ e. q (sym (own-label v h) ∙ e))
+
+  boundary-one : (a : ℕ) → a < n → boundary B s l a ≡ bit (counted x a)
+  unfolding boundary
+  boundary-one a h =
+      count-one n a (λ v. within l a v && exposed B s v) h (λ v i q. rw (not-here a v i q))
+      ∙ rw (alone-here a h) (ap bit (sym (counted-exposed n (length s) ends opened s x (g .counts) a (omega (arith, g .lent .vertex-limit)))))
+
+  lit-one : (a : ℕ) → a < n → oddlyLit B l S a ≡ S a
+  unfolding oddlyLit
+  lit-one a h =
+      odd-one n a (λ v. S v && within l a v) h (λ v i q. rw (not-here a v i (λ e. q (sym e))) (and-false (S v)))
+      ∙ rw (alone-here a h) (and-true (S a))
+
+  open-one : (a : ℕ) → a < n → holdsOpen B l a ≡ isOpen B a
+  unfolding holdsOpen
+  open-one a h =
+      some-one n a (λ v. isOpen B v && within l a v) h (λ v i q. rw (not-here a v i q) (and-false (isOpen B v)))
+      ∙ rw (alone-here a h) (and-true (isOpen B a))
+
+  -- the figures of lone vertices are true of the supports
+  fresh-figured : Figured B S s l (b .figure)
+  fresh-figured =
+      record {
+        kept = record {
+          named = λ a lead.
+              let h = lead .below in
+              w .figures .each a h ∙ sym (rw (boundary-one a h, lit-one a h, open-one a h));
+          others = λ a h none.
+              w .figures .others a (omega (arith, not-below a none)) h;
+        };
+      }
+    where
+      not-below : (a : ℕ) → (Leads n l a → ⊥) → a < n → ⊥
+      not-below a none h = none (record { below = h; own = own-label a h })
+
+  -- The full edges are fused
+
+  pub gather-none : Gathering n ends opened s b 0 b
+  gather-none =
+      record {
+        good = fresh-good;
+        vertices = w .vertices;
+        mirrors = mirrors-alone B (full s) (w .alone);
+        true-still = record { figures = λ C T z q h. h };
+      }
+
+  module _ (k : ℕ) (h : k < length s) (now : Book) (u : Gathering n ends opened s b k now) where
+    -- a full edge makes its ends' clusters one
+    pub gather-full : full s k ≡ true → (c d : ℕ) → c ≡ getD ends (2 * k) 0 → d ≡ getD ends (2 * k + 1) 0 → (after : Book) → Unites now c d after → Gathering n ends opened s b (suc k) after
+    unfolding labelsUpTo
+    gather-full is-full c d is-c is-d after f =
         record {
-          trees = joins-trees (w .trees) hx hy e;
-          mirrors = mirrors-joined (plain n m ends) (full s) k f (w .mirrors) (w .trees) (omega (arith, labels-length (plain n m ends) (full s) k)) hx hy e;
+          good = f .good;
+          vertices = f .vertices ∙ u .vertices;
+          mirrors =
+              rw (is-full, ← is-c, ← is-d)
+              (mirrors-united (u .mirrors) (omega (arith, labels-length B (full s) k)) (omega (arith, g .lent .first-in-range k h)) (omega (arith, g .lent .second-in-range k h))
+              (λ i j hi hj. f .one i j (omega (arith, u .vertices)) (omega (arith, u .vertices))));
+          true-still = keeps-on b now after (u .vertices ∙ sym (w .vertices)) (u .true-still) (f .true-still);
         }
 
-    -- another joins nothing
-    pub gather-other : full s k ≡ false → Gathering n m ends s (suc k) p q
-    gather-other f = record { trees = w .trees; mirrors = mirrors-passed (plain n m ends) (full s) k f (w .mirrors) }
+    -- another does nothing
+    pub gather-other : full s k ≡ false → Gathering n ends opened s b (suc k) now
+    gather-other other =
+        record { good = u .good; vertices = u .vertices; mirrors = mirrors-passed B (full s) k other (u .mirrors); true-still = u .true-still }
 
   -- the end
-  pub gather-all : {p q : List ℕ} → Gathering n m ends s m p q → Holds n (record { vertices = n; parent = p; size = q }) (clusters (plain n m ends) s)
+  pub gather-all : (now : Book) → Gathering n ends opened s b (length s) now → TrueBook B S s now
   unfolding clusters labels
-  gather-all w = record { vertices = refl; good = w .trees; mirrors = rw (length-replicate {A = ℕ} m 0) (w .mirrors) }
+  gather-all now u =
+      record {
+        vertices = u .vertices;
+        good = u .good;
+        mirrors = all;
+        figures = rw (names-are B (full s) (unmarked-inside (g .lent)) all lows-here) (subst (λ i. Figured B S s (names i (now .parent) (now .low)) (now .figure)) (u .vertices) (u .true-still .figures B S s (sym (w .vertices)) fresh-figured));
+      }
+    where
+      all : Mirrors n (now .parent) (clusters B s)
+      all = rw (length-replicate {A = ℕ} (length s) 0) (u .mirrors)
+
+      lows-here : Lows n (now .parent) (now .low)
+      lows-here = subst (λ i. Lows i (now .parent) (now .low)) (u .vertices) (u .good .lows)

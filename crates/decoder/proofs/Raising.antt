@@ -1,7 +1,7 @@
 -- One edge after the other lifted, and one after the other lost. Assumes nothing.
 use Prim.Native.Nat.{ℕ, suc, _≤_, _<_}
 use mathlib.Core.Path.{_≡_, refl, sym, ap, ap₂, _∙_}
-use mathlib.Core.Bool.{Bool, true, false, not, _&&_, _||_, or-false, or-true}
+use mathlib.Core.Bool.{Bool, true, false, not, _&&_, _||_, or-false, or-true, false≢true}
 use mathlib.Core.List.{List}
 use native.Mathlib.Nat.{not-suc-le-zero}
 use native.Mathlib.Omega.{arith}
@@ -14,7 +14,7 @@ use Rattle.model.specs.Board.{edgeLimit}
 use Rattle.model.specs.Growth.{full}
 use Rattle.model.proofs.SumLaws.{below-suc, some-cong, none-some}
 use Rattle.model.proofs.ListLaws.{values-are}
-use Rattle.decoder.specs.Gains.{Gainable, gains, lifted, Liftable, Lifts, Raisable, listed, fills, Raises}
+use Rattle.decoder.specs.Gains.{Gainable, gains, lifted, Liftable, Lifts, Raisable, listed, withListed, fills, Raises}
 
 -- the first k entries are f's, the others are still those of s₀
 pub record Filled (f : ℕ → ℕ) (s₀ : List ℕ) (k : ℕ) (s : List ℕ) : Type 0 where
@@ -42,7 +42,9 @@ pub record Raising (ends inside s₀ : List ℕ) (k : ℕ) (s filled : List ℕ)
   pub room : length filled ≡ edgeLimit
   pub few : count ≤ k
   pub edges : (i : ℕ) → i < count → getD filled i 0 < k
-  pub becomes-full : (e : ℕ) → e < k → full s e ≡ (full s₀ e || listed count filled e)
+  pub outside : (i : ℕ) → i < count → full s₀ (getD filled i 0) ≡ false
+  pub rising : (i j : ℕ) → i < j → j < count → getD filled i 0 < getD filled j 0
+  pub becomes-full : (e : ℕ) → e < k → full s e ≡ withListed (full s₀) count filled e
   pub count-is : count ≡ countUpTo k (fills ends inside s₀)
 
 pub liftable : {ends inside s₀ s filled₀ filled : List ℕ} {k count : ℕ} → Raisable ends inside s₀ filled₀ → Raising ends inside s₀ k s filled count → k < length s₀ → Liftable ends inside s k
@@ -61,11 +63,18 @@ raise-none ends inside s filled p =
       room = p;
       few = omega arith;
       edges = λ i h. absurd (not-suc-le-zero h);
+      outside = λ i h. absurd (not-suc-le-zero h);
+      rising = λ i j h l. absurd (not-suc-le-zero l);
       becomes-full = λ e h. absurd (not-suc-le-zero h);
       count-is = refl;
     }
 
 -- One edge
+
+-- what becomes full was not
+not-both : (a b : Bool) → (not a && b) ≡ true → a ≡ false
+not-both true b p = absurd (false≢true p)
+not-both false b p = refl
 
 pub gains-bound : {ends inside : List ℕ} {e : ℕ} → Gainable ends inside e → gains ends inside e ≤ 2
 gains-bound {e = e} g =
@@ -76,6 +85,12 @@ pub lift-full : (ends inside s : List ℕ) (e : ℕ) → full s e ≡ true → L
 lift-full ends inside s e p =
     let q : lifted ends inside s e ≡ getD s e 0 = omega (arith, eqb-true (getD s e 0) 2 p) in
     record { support = rw q (sym (set-getD s e 0)); becomes-full = rw p }
+
+-- so does one that gains nothing
+pub lift-none : (ends inside s : List ℕ) (e : ℕ) → full s e ≡ false → getD s e 0 ≤ 2 → gains ends inside e ≡ 0 → Lifts ends inside s e false s
+lift-none ends inside s e p small none =
+    let q : lifted ends inside s e ≡ getD s e 0 = omega arith in
+    record { support = rw q (sym (set-getD s e 0)); becomes-full = rw (q, p) }
 
 -- another gains up to 2
 pub lift-other : (ends inside s : List ℕ) (e after : ℕ) (r : Bool) → full s e ≡ false → after ≡ lifted ends inside s e → r ≡ eqb after 2
@@ -120,6 +135,8 @@ module _ (ends inside s₀ : List ℕ) (k : ℕ) (s filled : List ℕ) (count : 
         room = w .room;
         few = omega (arith, w .few);
         edges = λ i g. omega (arith, w .edges i g);
+        outside = w .outside;
+        rising = w .rising;
         becomes-full = λ e g. below-suc k e g (λ m. full-other e m _ ∙ w .becomes-full e m) (λ q. rw q at-k);
         count-is = omega (arith, w .count-is, ap bit (sym same-fills ∙ sym (l .becomes-full) ∙ p));
       }
@@ -137,10 +154,17 @@ module _ (ends inside s₀ : List ℕ) (k : ℕ) (s filled : List ℕ) (count : 
         room = simp length-set (w .room);
         few = omega (arith, w .few);
         edges = λ i g. below-suc count i g (λ m. rw (earlier i m) (omega (arith, w .edges i m))) (λ q. rw (q, added) (omega arith));
+        outside = λ i g. below-suc count i g (λ m. rw (earlier i m) (w .outside i m)) (λ q. rw (q, added) was-not);
+        rising = λ i j g h. below-suc count j h
+            (λ m. rw (earlier i (omega arith), earlier j m) (w .rising i j g m))
+            (λ q. rw (q, added, earlier i (omega arith)) (w .edges i (omega arith)));
         becomes-full = λ e g. below-suc k e g (λ m. full-other e m _ ∙ w .becomes-full e m ∙ ap (λ x. full s₀ e || x) (sym (more e m))) (λ q. rw q at-k);
         count-is = omega (arith, w .count-is, ap bit (sym same-fills ∙ sym (l .becomes-full) ∙ p));
       }
     where
+      was-not : full s₀ k ≡ false
+      was-not = not-both (full s₀ k) _ (sym same-fills ∙ sym (l .becomes-full) ∙ p)
+
       earlier : (i : ℕ) → i < count → getD (set filled count k) i 0 ≡ getD filled i 0
       earlier i m = getD-set-other filled count i k 0 (λ q. omega arith)
 
@@ -161,4 +185,4 @@ module _ (ends inside s₀ : List ℕ) (k : ℕ) (s filled : List ℕ) (count : 
 -- the end
 pub raise-all : (ends inside s₀ s filled : List ℕ) (count : ℕ) → Raising ends inside s₀ (length s₀) s filled count → Raises ends inside s₀ s filled count
 raise-all ends inside s₀ s filled count w =
-    record { supports = fill-all (lifted ends inside s₀) s₀ s (w .supports); few = w .few; edges = w .edges; becomes-full = w .becomes-full; count-is = w .count-is }
+    record { supports = fill-all (lifted ends inside s₀) s₀ s (w .supports); few = w .few; edges = w .edges; outside = w .outside; rising = w .rising; becomes-full = w .becomes-full; count-is = w .count-is }

@@ -1,150 +1,192 @@
--- The pieces of decoding meet the definitions: the start, and the run until no cluster is odd. Assumes nothing.
+-- A run: the supports at the start, and growth until no cluster is odd. Assumes nothing.
 use Prim.Native.Nat.{ℕ, suc, _*_, _-_, _≤_, _<_}
 use mathlib.Core.Path.{_≡_, refl, sym, ap, _∙_, subst, subst₂}
 use mathlib.Core.Bool.{true, false, cond, false≢true}
-use mathlib.Core.List.{List}
+use mathlib.Core.List.{List, []}
 use mathlib.Core.Option.{Option, none, some}
 use native.Mathlib.Omega.{arith}
 use lib.ListN.{length, length-replicate}
 use Rattle.model.specs.Sums.{Set, ones, values}
-use Rattle.model.specs.Board.{Board, unmarked, plain, EndsWithin, Unlit}
-use Rattle.model.specs.Growth.{start, clusters, swell, Policy, growFrom}
-use Rattle.model.specs.Decoding.{smallestOdd}
+use Rattle.model.specs.Board.{Board, Sheet, Inside, EndsWithin, unmarked, plain, vertexLimit}
+use Rattle.model.specs.Growth.{start, full, swell, Policy, growFrom, grown}
+use Rattle.model.specs.Decoding.{grownBy}
 use Rattle.model.proofs.ListLaws.{length-values}
+use Rattle.model.proofs.EndLaws.{within-limit}
 use Rattle.theory.proofs.GrowthRun.{Reached, begin, after, run-stops, run-grows}
 use Rattle.theory.proofs.GrowthBound.{growth-left}
-use Rattle.theory.proofs.Supports.{reached-supports}
-use Rattle.theory.proofs.MarksAside.{unmarked-inside}
+use Rattle.theory.proofs.Supports.{reached-supports, swell-cong}
+use Rattle.theory.proofs.MarksAside.{unmarked-inside, swell-aside}
 use Rattle.decoder.specs.declared.book.Book.{Book}
+use Rattle.decoder.specs.declared.book.Grown.{Grown}
 use Rattle.decoder.specs.declared.growing.Growth.{Growth}
-use Rattle.decoder.specs.declared.growth.Stepped.{Stepped}
-use Rattle.decoder.specs.Gains.{startOf}
-use Rattle.decoder.specs.Books.{Holds}
-use Rattle.decoder.specs.Growing.{policyOf, nextOn, isSome}
-use Rattle.decoder.specs.Runs.{Startable, Starts, Steppable, Steps, Runnable, runOf, Runs}
+use Rattle.decoder.specs.declared.growing.Growing.{Growing}
+use Rattle.union_find.specs.Trees.{Rooted}
+use Rattle.decoder.specs.Gains.{Supports, startOf}
+use Rattle.decoder.specs.Figures.{Lows, Figurable}
+use Rattle.decoder.specs.Exposures.{Exposures}
+use Rattle.decoder.specs.Books.{TrueBook, Gatherable, Growable, Grows}
+use Rattle.decoder.specs.Growing.{policyOf, isSome, Follows, FollowsAll}
+use Rattle.decoder.specs.Runs.{bare, Runnable, Runs}
+use Rattle.decoder.proofs.Marking.{marks-small, marks-are}
 use Rattle.decoder.proofs.Policies.{policy-feeds}
 
--- The start
+-- after g growths: the book is that of the supports, which growths that the policy names reached, and what is left of the run ends where the
+-- whole run does
+pub record Running (x : Growth) (n : ℕ) (ends opened syndrome loss : List ℕ) (s counts : List ℕ) (b : Book) (g : ℕ) : Type 0 where
+  pub long : length s ≡ length loss
+  pub book : TrueBook (unmarked n (length loss) ends opened) (ones syndrome) s b
+  pub ends-left : Exposures (length loss) ends (full s) counts
+  pub reached : Reached (unmarked n (length loss) ends opened) (policyOf x (unmarked n (length loss) ends opened) (ones syndrome)) (ones loss) s g
+  pub few : g ≤ 2 * length loss
+  pub rest :
+      growFrom (unmarked n (length loss) ends opened) (policyOf x (unmarked n (length loss) ends opened) (ones syndrome)) (2 * length loss - g) s g
+      ≡ grownBy (policyOf x) (bare n ends opened syndrome loss)
 
-start-length : (loss : List ℕ) → length (startOf loss) ≡ length loss
-start-length loss = length-values (length loss) (λ e. cond (ones loss e) 2 0)
+module _ (x : Growth) (n : ℕ) (ends opened syndrome loss s₀ : List ℕ) (w : Runnable n ends opened syndrome loss s₀) where
+  abbrev m : ℕ
+  m = length loss
 
-pub started-lent : {n : ℕ} {ends loss s₀ s : List ℕ} → Startable n ends loss s₀ → s ≡ startOf loss → EndsWithin n (length s) ends
-started-lent {n} {ends} {loss} w p = subst (λ m. EndsWithin n m ends) (sym (ap length p ∙ start-length loss)) (w .lent)
+  abbrev B : Board
+  B = unmarked n m ends opened
 
-pub starts : {n : ℕ} {ends loss s : List ℕ} {r : Book} → s ≡ startOf loss → Holds n r (clusters (plain n (length s) ends) s) → Starts n ends loss r s
-unfolding start
-starts {n} {ends} {loss} {s} {r} p h =
-    record {
-      supports = p ∙ ap (λ m. values m (λ e. cond (ones loss e) 2 0)) (sym (length-replicate {A = ℕ} (length loss) 0));
-      book = subst (λ m. Holds n r (clusters (plain n m ends) s)) (ap length p ∙ start-length loss) h;
-    }
+  abbrev S : Set
+  S = ones syndrome
 
--- The run
-
--- after g growths: the book is that of the supports, which growths that the policy names reached, and what is left of the run ends where
--- the whole run does
-pub record Running (x : Growth) (n m : ℕ) (ends opened syndrome s₀ : List ℕ) (s : List ℕ) (b : Book) (g : ℕ) : Type 0 where
-  pub steppable : Steppable n m b ends opened syndrome s
-  pub unlit : Unlit (unmarked n m ends opened) (ones syndrome)
-  pub none-odd : smallestOdd (unmarked n m ends opened) (ones syndrome) ≡ none
-  pub lost : Set
-  pub reached : Reached (unmarked n m ends opened) (nextOn (policyOf x) n m ends opened syndrome) lost s g
-  pub few : g ≤ 2 * m
-  pub rest : growFrom (unmarked n m ends opened) (nextOn (policyOf x) n m ends opened syndrome) (2 * m - g) s g ≡ runOf (policyOf x) n m ends opened syndrome s₀
-
-pub run-begins : (x : Growth) {n m : ℕ} {b : Book} {ends opened syndrome s : List ℕ} → Runnable n m b ends opened syndrome s
-    → Running x n m ends opened syndrome s s b 0
-run-begins x {n} {m} {b} {ends} {opened} {syndrome} {s} w =
-    record {
-      steppable = w .steppable;
-      unlit = w .unlit;
-      none-odd = w .none-odd;
-      lost = w .lost;
-      reached =
-          subst (λ y. Reached (unmarked n m ends opened) (nextOn (policyOf x) n m ends opened syndrome) (w .lost) y 0) (sym (w .begins)) begin;
-      few = omega arith;
-      rest = ap (λ k. growFrom (unmarked n m ends opened) (nextOn (policyOf x) n m ends opened syndrome) k s 0) (omega arith);
-    }
-
-module _ {x : Growth} {n m : ℕ} {ends opened syndrome s₀ s : List ℕ} {b : Book} {g : ℕ} (w : Running x n m ends opened syndrome s₀ s b g) where
-  abbrev board : Board
-  board = unmarked n m ends opened
+  abbrev X : Sheet
+  X = bare n ends opened syndrome loss
 
   abbrev policy : Policy
-  policy = nextOn (policyOf x) n m ends opened syndrome
+  policy = policyOf x B S
 
-  pub running-steppable : Steppable (b .vertices) (length s) b ends opened syndrome s
-  running-steppable =
-      subst₂ (λ x y. Steppable x y b ends opened syndrome s) (sym (w .steppable .book .vertices)) (sym (w .steppable .long)) (w .steppable)
+  inside : Inside B
+  inside = unmarked-inside (w .lent)
 
-  module _ {r : Stepped} {s′ : List ℕ} (there : Steps (policyOf x) (b .vertices) (length s) ends opened syndrome s r s′) where
-    here : Steps (policyOf x) n m ends opened syndrome s r s′
-    here = subst₂ (λ y z. Steps (policyOf x) y z ends opened syndrome s r s′) (w .steppable .book .vertices) (w .steppable .long) there
+  -- The start
 
-    -- no cluster is odd: the run ends here
-    pub run-done : r .grew ≡ false → Runs (policyOf x) n m ends opened syndrome s₀ (record { book = r .book; count = g }) s′
-    run-done p = go (policy s) refl
-      where
-        go : (o : Option Set) → policy s ≡ o → Runs (policyOf x) n m ends opened syndrome s₀ (record { book = r .book; count = g }) s′
-        go (some R) q = absurd (false≢true (sym p ∙ here .grew ∙ ap isSome q))
-        go none q =
-            let end = sym (run-stops board policy (2 * m - g) s g q) ∙ w .rest in
-            record { count = ap (λ y. y .count) end; supports = here .supports ∙ rw q (ap (λ y. y .support) end); book = here .book }
+  module _ (s : List ℕ) (lost : s ≡ startOf loss) where
+    started-long : length s ≡ m
+    started-long = ap length lost ∙ length-values (length loss) (λ e. cond (ones loss e) 2 0)
 
-    -- some vertices have grown
-    record Grew : Type 0 where
-      at : Set
-      is : policy s ≡ some at
-      supports : s′ ≡ swell board s at
+    starts : s ≡ start B (ones loss)
+    unfolding start
+    starts = lost ∙ ap (λ k. values k (λ e. cond (ones loss e) 2 0)) (sym (length-replicate {A = ℕ} m 0))
 
-    grew-at : r .grew ≡ true → Grew
-    grew-at p = go (policy s) refl
-      where
-        go : (o : Option Set) → policy s ≡ o → Grew
-        go none q = absurd (false≢true (sym (ap isSome q) ∙ sym (here .grew) ∙ p))
-        go (some R) q = record { at = R; is = q; supports = here .supports ∙ rw q }
+    started-lent : EndsWithin n (length s) ends
+    started-lent = subst (λ k. EndsWithin n k ends) (sym started-long) (w .lent)
 
-    pub growths-left : r .grew ≡ true → g < 2 * m
-    growths-left p =
-        let inside = unmarked-inside (w .steppable .lent) in
-        omega (
-          arith,
-          growth-left board inside (ones syndrome) (w .lost) policy (policy-feeds x board inside (ones syndrome)) (w .unlit) (w .none-odd) (w .reached) (grew-at p .is),
-          length-replicate {A = ℕ} m 0,
-        )
+    pub countable : EndsWithin vertexLimit (length s) ends
+    countable = within-limit started-lent
 
-    pub run-more : r .grew ≡ true → Running x n m ends opened syndrome s₀ s′ (r .book) (suc g)
-    run-more p =
+    module _ (counts : List ℕ) (counted : Exposures (length s) ends (full s) counts) where
+      pub gatherable : Gatherable n ends opened syndrome s counts
+      gatherable = record { lent = started-lent; open-bytes = w .open-bytes; lit = w .lit; counts = counted }
+
+      pub run-begins : (b : Book) → TrueBook (unmarked n (length s) ends opened) S s b → Running x n ends opened syndrome loss s counts b 0
+      unfolding grownBy grown
+      run-begins b book =
+          record {
+            long = started-long;
+            book = subst (λ k. TrueBook (unmarked n k ends opened) S s b) started-long book;
+            ends-left = subst (λ k. Exposures k ends (full s) counts) started-long counted;
+            reached = subst (λ z. Reached B policy (ones loss) z 0) (sym starts) begin;
+            few = omega arith;
+            rest =
+                let all : 2 * m - 0 ≡ 2 * m = omega arith in
+                ap (λ k. growFrom B policy k s 0) all
+                ∙ ap (λ z. growFrom B policy (2 * m) z 0) starts
+                ∙ ap (λ k. growFrom B policy (2 * k) (start B (ones loss)) 0) (sym (length-replicate m 0));
+          }
+
+  -- One growth
+
+  module _ (s counts : List ℕ) (b : Book) (g : ℕ) (run : Running x n ends opened syndrome loss s counts b g) where
+    pub figurable : Figurable n (b .parent) (b .low) (b .figure)
+    figurable =
         record {
-          steppable = record {
-            lent = w .steppable .lent;
-            open-bytes = w .steppable .open-bytes;
-            lit = w .steppable .lit;
-            long = after-supports .long ∙ length-replicate m 0;
-            supports = record { small = λ e h. after-supports .bounded e (omega (arith, after-supports .long)) };
-            book = here .book;
-          };
-          unlit = w .unlit;
-          none-odd = w .none-odd;
-          lost = w .lost;
-          reached = reaches;
-          few = growths-left p;
-          rest = goes-on ∙ w .rest;
+          rooted = subst (λ k. Rooted k (b .parent)) (run .book .vertices) (record { size = b .size; climbs = run .book .good .trees .climbs });
+          lows = subst (λ k. Lows k (b .parent) (b .low)) (run .book .vertices) (run .book .good .lows);
+          long = run .book .good .figures-long;
         }
-      where
-        y : Grew
-        y = grew-at p
 
-        reaches : Reached board policy (w .lost) s′ (suc g)
-        reaches = subst (λ z. Reached board policy (w .lost) z (suc g)) (sym (y .supports)) (after (w .reached) (y .is))
+    module _ (r : Growing) (all : FollowsAll (policyOf x) n (b .parent) (b .figure) r) where
+      follows : Follows (policyOf x) B S s r
+      follows = all .each B S s refl inside (run .book .mirrors) (run .book .figures)
 
-        after-supports : Rattle.theory.proofs.Supports.Supports board (w .lost) s′
-        after-supports = reached-supports board policy (w .lost) reaches
+      -- no cluster is odd: the run ends here
+      pub run-done : r .any ≡ false → Runs (policyOf x) X (record { book = b; count = g }) s
+      run-done p = go (policy s) refl
+        where
+          go : (o : Option Set) → policy s ≡ o → Runs (policyOf x) X (record { book = b; count = g }) s
+          go (some R) q = absurd (false≢true (sym p ∙ follows .any ∙ ap isSome q))
+          go none q =
+              let end = sym (run-stops B policy (2 * m - g) s g q) ∙ run .rest in
+              record { count = ap (λ y. y .count) end; supports = ap (λ y. y .support) end; book = run .book }
 
-        -- one step of the run
-        goes-on : growFrom board policy (2 * m - suc g) s′ (suc g) ≡ growFrom board policy (2 * m - g) s g
-        goes-on =
-            let k : suc (2 * m - suc g) ≡ 2 * m - g = omega (arith, growths-left p) in
-            rw (y .supports)
-            (sym (run-grows board policy (2 * m - suc g) s g (y .at) (y .is)) ∙ ap (λ z. growFrom board policy z s g) k)
+      module _ (p : r .any ≡ true) where
+        -- some vertices grow
+        record Named : Type 0 where
+          at : Set
+          is : policy s ≡ some at
+
+        named : Named
+        named = go (policy s) refl
+          where
+            go : (o : Option Set) → policy s ≡ o → Named
+            go none q = absurd (false≢true (sym (ap isSome q) ∙ sym (follows .any) ∙ p))
+            go (some R) q = record { at = R; is = q }
+
+        pub growths-left : g < 2 * m
+        growths-left =
+            omega (
+              arith,
+              growth-left B inside S (ones loss) policy (policy-feeds x B inside S) (w .unlit) (w .none-odd) (run .reached) (named .is),
+              length-replicate {A = ℕ} m 0,
+            )
+
+        supports-here : Supports s
+        supports-here =
+            let y = reached-supports B policy (ones loss) (run .reached) in
+            record { small = λ e h. y .bounded e (omega (arith, y .long)) }
+
+        book-there : TrueBook (unmarked (b .vertices) (length s) ends opened) S s b
+        book-there = subst₂ (λ i j. TrueBook (unmarked i j ends opened) S s b) (sym (run .book .vertices)) (sym (run .long)) (run .book)
+
+        pub growable : Growable b ends (r .inside) s counts
+        growable =
+            record {
+              lent = subst₂ (λ i j. EndsWithin i j ends) (sym (run .book .vertices)) (sym (run .long)) (w .lent);
+              supports = supports-here;
+              marks = marks-small n (named .at) (r .inside) (follows .marks (named .at) (named .is));
+              counts = subst (λ k. Exposures k ends (full s) counts) (sym (run .long)) (run .ends-left);
+              opened = opened;
+              lit = S;
+              book = book-there;
+            }
+
+        module _ (made : Grown) (s′ counts′ : List ℕ) (grows : Grows b ends (r .inside) s made s′ counts′) where
+          swelled : s′ ≡ swell B s (named .at)
+          swelled =
+              grows .supports
+              ∙ subst₂ (λ i j. swell (plain i j ends) s (ones (r .inside)) ≡ swell (plain n m ends) s (ones (r .inside))) (sym (run .book .vertices)) (sym (run .long)) refl
+              ∙ swell-aside n ends _ _ [] opened refl s (ones (r .inside))
+              ∙ swell-cong B inside s (ones (r .inside)) (named .at) (marks-are n (named .at) (r .inside) (follows .marks (named .at) (named .is)))
+
+          reaches : Reached B policy (ones loss) s′ (suc g)
+          reaches = subst (λ z. Reached B policy (ones loss) z (suc g)) (sym swelled) (after (run .reached) (named .is))
+
+          pub run-more : Running x n ends opened syndrome loss s′ counts′ (made .book) (suc g)
+          run-more =
+              record {
+                long = reached-supports B policy (ones loss) reaches .long ∙ length-replicate m 0;
+                book = subst₂ (λ i j. TrueBook (unmarked i j ends opened) S s′ (made .book)) (run .book .vertices) (run .long) (grows .book opened S book-there);
+                ends-left = subst (λ k. Exposures k ends (full s′) counts′) (run .long) (grows .counts);
+                reached = reaches;
+                few = growths-left;
+                rest = goes-on ∙ run .rest;
+              }
+            where
+              -- one step of the run
+              goes-on : growFrom B policy (2 * m - suc g) s′ (suc g) ≡ growFrom B policy (2 * m - g) s g
+              goes-on =
+                  let k : suc (2 * m - suc g) ≡ 2 * m - g = omega (arith, growths-left) in
+                  rw swelled (sym (run-grows B policy (2 * m - suc g) s g (named .at) (named .is)) ∙ ap (λ z. growFrom B policy z s g) k)

@@ -26,7 +26,8 @@ use Rattle.decoder.specs.declared.growing.Growth.{Growth}
 use Rattle.decoder.specs.declared.key.Solved.{Solved}
 use Rattle.decoder.specs.declared.key.Solved.the-variants.{Key, Refused}
 use Rattle.decoder.specs.Growing.{policyOf}
-use Rattle.decoder.specs.Keys.{bare, Keyable, solvedOrNone, Keys, Solves, writtenBytes}
+use Rattle.decoder.specs.Runs.{bare}
+use Rattle.decoder.specs.Keys.{Keyable, solvedOrNone, Keys, Solves, writtenBytes}
 use Rattle.decoder.proofs.Policies.{policy-aside}
 
 -- An array whose front is as long as a lent buffer, copied over it: all of it, or none of it.

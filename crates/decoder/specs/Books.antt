@@ -1,53 +1,81 @@
 -- What holds of the cluster book, and what its methods do to it. Internal: no part of what a reader of a product call must believe.
 -- Assumes nothing.
-use Prim.Native.Nat.{ℕ, _≤_, _<_}
+use Prim.Native.Nat.{ℕ, _<_}
 use mathlib.Core.Path.{_≡_}
 use mathlib.Core.Bool.{Bool, not, _&&_, _||_}
 use mathlib.Core.List.{List}
 use lib.ListN.{length, getD}
 use Rattle.model.specs.Sums.{Set, countUpTo, ones}
-use Rattle.model.specs.Board.{edgeLimit, plain, EndsWithin}
+use Rattle.model.specs.Board.{Board, vertexLimit, unmarked, plain, EndsWithin}
 use Rattle.model.specs.Components.{labels}
 use Rattle.model.specs.Growth.{full, clusters, swell}
 use Rattle.model.specs.declared.numbers.Vertex.{Vertex}
 use Rattle.union_find.specs.declared.Joined.the-variants.{Hung}
 use Rattle.union_find.specs.Trees.{at, rootOf, Trees, Alone, Compressed}
 use Rattle.union_find.specs.Joining.{joined, sameRoot, Mirrors}
-use Rattle.decoder.specs.Gains.{Marked, Supports, listed}
+use Rattle.decoder.specs.Gains.{Marked, Supports, withListed}
+use Rattle.decoder.specs.Figures.{Lows, names, Figured}
+use Rattle.decoder.specs.Exposures.{Exposures}
+use Rattle.decoder.specs.LoneFigures.{LoneFigures}
 use Rattle.decoder.specs.declared.book.Book.{Book}
 use Rattle.decoder.specs.declared.book.Found.{Found}
 use Rattle.decoder.specs.declared.book.Fused.{Fused}
 use Rattle.decoder.specs.declared.book.Grown.{Grown}
 
--- the book's arrays are trees of its vertices
-abbrev pub Good : Book → Type 0
-Good b = Trees (b .vertices) (b .parent) (b .size)
+-- the book's arrays are trees of its vertices, named by their smallest vertices, and there is a figure for each name
+pub record Good (b : Book) : Type 0 where
+  pub trees : Trees (b .vertices) (b .parent) (b .size)
+  pub lows : Lows (b .vertices) (b .parent) (b .low)
+  pub figures-long : length (b .figure) ≡ vertexLimit
 
 -- two of its vertices are in one cluster
 abbrev pub together : Book → ℕ → ℕ → Bool
 together b u v = sameRoot (b .parent) u v
 
+-- its own clusters, as labels
+abbrev pub ownLabels : Book → List ℕ
+ownLabels b = names (b .vertices) (b .parent) (b .low)
+
+-- Document 02, K6: the book of the supports s. Its clusters are theirs, and with each is kept its boundary size at s.
+pub record TrueBook (B : Board) (S : Set) (s : List ℕ) (b : Book) : Type 0 where
+  pub vertices : b .vertices ≡ B .vertices
+  pub good : Good b
+  pub mirrors : Mirrors (B .vertices) (b .parent) (clusters B s)
+  pub figures : Figured B S s (clusters B s) (b .figure)
+
+-- From one book to another: the figures of its own clusters, if they were true of some supports, are true of these same supports still.
+-- The supports may be ahead of the book, as in a growth, when they are raised and not every cluster is fused yet.
+pub record KeepsTrue (b b′ : Book) : Type 0 where
+  pub figures :
+      (B : Board) (S : Set) (s : List ℕ) → B .vertices ≡ b .vertices → Figured B S s (ownLabels b) (b .figure) →
+      Figured B S s (ownLabels b′) (b′ .figure)
+
 -- every vertex alone
-pub record Fresh (n : ℕ) (b : Book) : Type 0 where
+pub record Fresh (n : ℕ) (opened syndrome x : List ℕ) (b : Book) : Type 0 where
   pub vertices : b .vertices ≡ n
   pub alone : Alone n (b .parent) (b .size)
+  pub lows : b .low ≡ b .parent
+  pub figures : LoneFigures n opened syndrome x (b .figure)
 
--- a book of n vertices whose clusters are the parts that the labels name
-pub record Holds (n : ℕ) (b : Book) (labels : List ℕ) : Type 0 where
-  pub vertices : b .vertices ≡ n
-  pub good : Good b
-  pub mirrors : Mirrors n (b .parent) labels
+-- the counts are those of the supports
+pub record Gatherable (n : ℕ) (ends opened syndrome s x : List ℕ) : Type 0 where
+  pub lent : EndsWithin n (length s) ends
+  pub open-bytes : length opened ≡ n
+  pub lit : length syndrome ≡ n
+  pub counts : Exposures (length s) ends (full s) x
 
 -- v is one of the book's vertices
 pub record Kept (b : Book) (v : ℕ) : Type 0 where
   pub good : Good b
   pub vertex : v < b .vertices
 
--- The root of v, with the way up to it compressed: so every vertex keeps its root, and every tree its size.
+-- The root of v, with the way up to it compressed: so every vertex keeps its root, and every tree its size and what is kept of it.
 pub record Finds (b : Book) (v : ℕ) (r : Found) : Type 0 where
   pub good : Good (r .book)
   pub vertices : r .book .vertices ≡ b .vertices
   pub sizes : r .book .size ≡ b .size
+  pub lows : r .book .low ≡ b .low
+  pub figures : r .book .figure ≡ b .figure
   pub roots : (u : ℕ) → u < b .vertices → rootOf (r .book .parent) u ≡ rootOf (b .parent) u
   pub root : r .root .0 ≡ rootOf (b .parent) v
   pub compressed : Compressed (b .parent) v (rootOf (b .parent) v) (r .book .parent)
@@ -58,47 +86,46 @@ pub record BothKept (b : Book) (x y : ℕ) : Type 0 where
   pub second : y < b .vertices
 
 -- The clusters of x and y are one, and the others stay: two vertices are together exactly where they were or each was in one of the two.
--- `joined` says which root is hung under which: that of the smaller tree under that of the larger.
-pub record Fuses (b : Book) (x y : ℕ) (r : Fused) : Type 0 where
-  pub good : Good (r .book)
-  pub vertices : r .book .vertices ≡ b .vertices
-  pub answer : r .joined ≡ joined (b .parent) (b .size) x y
-  pub hung : (child root : Vertex) → r .joined ≡ Hung child root → at (r .book .parent) (child .0) ≡ root .0
+pub record Unites (b : Book) (x y : ℕ) (b′ : Book) : Type 0 where
+  pub good : Good b′
+  pub vertices : b′ .vertices ≡ b .vertices
   pub one :
       (u v : ℕ) → u < b .vertices → v < b .vertices →
-      together (r .book) u v ≡ (together b u v || ((together b u x || together b u y) && (together b v x || together b v y)))
+      together b′ u v ≡ (together b u v || ((together b u x || together b u y) && (together b v x || together b v y)))
+  pub true-still : KeepsTrue b b′
 
--- the first `count` listed edges are lent, of m edges in all
-pub record Fusable (b : Book) (ends filled : List ℕ) (count : ℕ) : Type 0 where
-  pub good : Good b
-  pub edges : ℕ
-  pub lent : EndsWithin (b .vertices) edges ends
-  pub few : count ≤ edgeLimit
-  pub listed : (i : ℕ) → i < count → getD filled i 0 < edges
+-- `joined` says which root is hung under which: that of the smaller tree under that of the larger.
+pub record Fuses (b : Book) (x y : ℕ) (r : Fused) : Type 0 where
+  pub answer : r .joined ≡ joined (b .parent) (b .size) x y
+  pub hung : (child root : Vertex) → r .joined ≡ Hung child root → at (r .book .parent) (child .0) ≡ root .0
+  pub unites : Unites b x y (r .book)
 
--- the set F and the first k listed edges
-abbrev pub withListed : Set → ℕ → List ℕ → Set
-withListed F k filled e = F e || listed k filled e
-
--- a book of the parts by the edges of some set F is then one of the parts by F and the listed edges
-pub record FusesListed (b : Book) (ends filled : List ℕ) (k : ℕ) (r : Book) : Type 0 where
-  pub vertices : r .vertices ≡ b .vertices
-  pub good : Good r
+-- a book of the parts by the edges of some set F is then one of the parts by F and the first k listed edges
+pub record FusesListed (b : Book) (ends filled : List ℕ) (k : ℕ) (b′ : Book) : Type 0 where
+  pub good : Good b′
+  pub vertices : b′ .vertices ≡ b .vertices
   pub each :
-      (m : ℕ) (F : Set) → EndsWithin (b .vertices) m ends → ((i : ℕ) → i < k → getD filled i 0 < m) →
-      Mirrors (b .vertices) (b .parent) (labels (plain (b .vertices) m ends) F) →
-      Mirrors (b .vertices) (r .parent) (labels (plain (b .vertices) m ends) (withListed F k filled))
+      (m : ℕ) (opened : List ℕ) (F : Set) → EndsWithin (b .vertices) m ends → ((i : ℕ) → i < k → getD filled i 0 < m) →
+      Mirrors (b .vertices) (b .parent) (labels (unmarked (b .vertices) m ends opened) F) →
+      Mirrors (b .vertices) (b′ .parent) (labels (unmarked (b .vertices) m ends opened) (withListed F k filled))
+  pub true-still : KeepsTrue b b′
 
--- the book is that of the clusters of the supports, and each vertex has a mark
-pub record Growable (b : Book) (ends inside s : List ℕ) : Type 0 where
+-- the book is that of the supports, the counts are theirs, and each vertex has a mark
+pub record Growable (b : Book) (ends inside s x : List ℕ) : Type 0 where
   pub lent : EndsWithin (b .vertices) (length s) ends
   pub supports : Supports s
   pub marks : Marked inside
-  pub good : Good b
-  pub mirrors : Mirrors (b .vertices) (b .parent) (clusters (plain (b .vertices) (length s) ends) s)
+  pub counts : Exposures (length s) ends (full s) x
+  pub opened : List ℕ
+  pub lit : Set
+  pub book : TrueBook (unmarked (b .vertices) (length s) ends opened) lit s b
 
--- document 01's step 4: the supports after the marked vertices have grown, the book of their clusters, and how many edges became full
-pub record Grows (b : Book) (ends inside s : List ℕ) (r : Grown) (s′ : List ℕ) : Type 0 where
+-- document 01's step 4: the supports after the marked vertices have grown, the book of these supports, whichever vertices are open or lit,
+-- and how many edges became full
+pub record Grows (b : Book) (ends inside s : List ℕ) (r : Grown) (s′ x′ : List ℕ) : Type 0 where
   pub supports : s′ ≡ swell (plain (b .vertices) (length s) ends) s (ones inside)
-  pub book : Holds (b .vertices) (r .book) (clusters (plain (b .vertices) (length s) ends) s′)
+  pub book :
+      (opened : List ℕ) (S : Set) → TrueBook (unmarked (b .vertices) (length s) ends opened) S s b →
+      TrueBook (unmarked (b .vertices) (length s) ends opened) S s′ (r .book)
+  pub counts : Exposures (length s) ends (full s′) x′
   pub filled : r .filled ≡ countUpTo (length s) (λ e. full s′ e && not (full s e))

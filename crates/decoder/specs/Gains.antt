@@ -2,7 +2,7 @@
 -- Assumes nothing.
 use Prim.Native.Nat.{ℕ, _+_, _*_, _≤_, _<_, min}
 use mathlib.Core.Path.{_≡_}
-use mathlib.Core.Bool.{Bool, cond, not, _&&_, _||_}
+use mathlib.Core.Bool.{Bool, false, cond, not, _&&_, _||_}
 use mathlib.Core.List.{List}
 use lib.ListN.{length, getD, set}
 use lib.Dec.{eqb}
@@ -58,12 +58,18 @@ pub record Raisable (ends inside s filled : List ℕ) : Type 0 where
 abbrev pub listed : ℕ → List ℕ → Set
 listed k l e = someUpTo k (λ i. eqb (getD l i 0) e)
 
--- what one growth leaves: the supports, and a list of the edges that became full
+-- the set F and the first k listed edges
+abbrev pub withListed : Set → ℕ → List ℕ → Set
+withListed F k filled e = F e || listed k filled e
+
+-- what one growth leaves: the supports, and a rising list of the edges that became full
 pub record Raises (ends inside s s′ filled : List ℕ) (count : ℕ) : Type 0 where
   pub supports : s′ ≡ values (length s) (lifted ends inside s)
   pub few : count ≤ length s
   pub edges : (i : ℕ) → i < count → getD filled i 0 < length s
-  pub becomes-full : (e : ℕ) → e < length s → full s′ e ≡ (full s e || listed count filled e)
+  pub outside : (i : ℕ) → i < count → full s (getD filled i 0) ≡ false
+  pub rising : (i j : ℕ) → i < j → j < count → getD filled i 0 < getD filled j 0
+  pub becomes-full : (e : ℕ) → e < length s → full s′ e ≡ withListed (full s) count filled e
   pub count-is : count ≡ countUpTo (length s) (fills ends inside s)
 
 -- lost edges start full, others with nothing

@@ -5,7 +5,7 @@ use mathlib.Core.Path.{_≡_}
 use mathlib.Core.List.{List}
 use lib.ListN.{length}
 use Rattle.model.specs.Sums.{Set, ones, bytes}
-use Rattle.model.specs.Board.{Board, Sheet, sheetOf, edges, EndsWithin, ValidBytes, Unlit, unmarked}
+use Rattle.model.specs.Board.{Board, Sheet, edges, EndsWithin, ValidBytes, Unlit, unmarked}
 use Rattle.model.specs.Winding.{size}
 use Rattle.model.specs.Growth.{Policy}
 use Rattle.model.specs.Decoding.{grownBy, peeled}
@@ -13,10 +13,6 @@ use Rattle.model.specs.Refusals.{oddPartTest, decodeRefusal}
 use Rattle.model.specs.Outcomes.{answer}
 use Rattle.decoder.specs.declared.key.Solved.{Solved}
 use Rattle.decoder.specs.declared.key.Solved.the-variants.{Key, Refused}
-
--- the sheet without its marks
-abbrev pub bare : ℕ → List ℕ → List ℕ → List ℕ → List ℕ → Sheet
-bare n ends opened syndrome loss = sheetOf (unmarked n (length loss) ends opened) syndrome loss
 
 -- the ends lie within the board, each vertex has an open byte and a syndrome byte, no open vertex is lit, and both buffers have a byte for
 -- each edge

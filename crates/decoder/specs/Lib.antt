@@ -1,12 +1,15 @@
 pub mod Tallies
+pub mod Figures
 pub mod Exposures
+pub mod LoneFigures
+pub mod Merging
 pub mod TreeLabels
 pub mod Choices
 pub mod Growing
-pub mod OddCounts
 pub mod OddEnds
 pub mod OddClusters
 pub mod Gains
+pub mod Shutting
 pub mod Books
 pub mod Runs
 pub mod Keys

@@ -9,22 +9,40 @@ use Rattle.model.specs.Sums.{Set, bit}
 use Rattle.model.specs.Board.{vertexLimit}
 use Rattle.model.specs.Components.{label}
 use Rattle.union_find.specs.Trees.{rootOf, Rooted}
+use Rattle.decoder.specs.Figures.{Lows, nameOf}
 
--- and v is one of them
+-- the first n vertices have roots, and v is one of them
 pub record RootedAt (n : ℕ) (parent : List ℕ) (v : ℕ) : Type 0 where
   pub rooted : Rooted n parent
   pub vertex : v < n
 
--- a is the smallest vertex of v's tree
-pub record Smallest (parent : List ℕ) (v a : ℕ) : Type 0 where
-  pub below : a ≤ v
-  pub same : rootOf parent a ≡ rootOf parent v
-  pub least : (u : ℕ) → rootOf parent u ≡ rootOf parent v → a ≤ u
+-- a and b are
+pub record BothRooted (parent : List ℕ) (a b : ℕ) : Type 0 where
+  pub vertices : ℕ
+  pub rooted : Rooted vertices parent
+  pub first : a < vertices
+  pub second : b < vertices
 
--- each of the first k vertices is labelled with the smallest of its tree
-pub record Names (k : ℕ) (parent labels : List ℕ) : Type 0 where
+-- they have roots, and by each root stands the smallest vertex of its tree
+pub record Nameable (n : ℕ) (parent low : List ℕ) : Type 0 where
+  pub rooted : Rooted n parent
+  pub lows : Lows n parent low
+
+-- and v is one of them
+pub record NamedAt (parent low : List ℕ) (v : ℕ) : Type 0 where
+  pub vertices : ℕ
+  pub nameable : Nameable vertices parent low
+  pub vertex : v < vertices
+
+-- a is the name of v's tree
+pub record NameIs (parent low : List ℕ) (v a : ℕ) : Type 0 where
+  pub is : a ≡ nameOf parent low v
+  pub small : a < vertexLimit
+
+-- each of the first k vertices is labelled with the name of its tree
+pub record Labelled (k : ℕ) (parent low labels : List ℕ) : Type 0 where
   pub long : length labels ≡ vertexLimit
-  pub each : (v : ℕ) → v < k → Smallest parent v (label labels v)
+  pub each : (v : ℕ) → v < k → label labels v ≡ nameOf parent low v
 
 -- the vertices of the tree whose root is r
 abbrev pub tree : List ℕ → ℕ → Set

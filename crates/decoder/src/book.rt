@@ -1,3 +1,7 @@
+use crate::figure::lone_figures;
+use crate::labels::apart;
+use crate::merging::merge;
+use crate::shutting::shut_listed;
 use crate::support::raise;
 use model::ends::first_end;
 use model::ends::second_end;
@@ -9,18 +13,23 @@ use union_find::alone;
 use union_find::compress;
 use union_find::join;
 use union_find::root_of;
-ghost use Prim.Native.Nat.{_≤_};
 ghost use lib.ListN.{length};
 ghost use Rattle.model.specs.Lent.{before, after};
-ghost use Rattle.model.specs.Board.{vertexLimit, plain, EndsWithin};
-ghost use Rattle.model.specs.Growth.{clusters};
-ghost use Rattle.decoder.specs.Books.{Fresh, Holds, Kept, Finds, BothKept, Fuses, Fusable, FusesListed, Growable, Grows};
+ghost use Rattle.model.specs.Sums.{ones};
+ghost use Rattle.model.specs.Board.{unmarked};
+ghost use Rattle.decoder.specs.LoneFigures.{Lonely};
+ghost use Rattle.decoder.specs.Books.{Fresh, Gatherable, TrueBook, Kept, Finds, BothKept, Fuses, Growable, Grows};
 
-// The cluster book: a union-find over the first `vertices` vertices. A vertex's cluster is its tree.
+// The cluster book: a union-find over the first `vertices` vertices. A vertex's cluster is its tree, and with each cluster its boundary size
+// is kept.
 pub(crate) struct Book {
     pub(crate) vertices: usize,
     pub(crate) parent: [u16; Book::VERTICES],
     pub(crate) size: [u16; Book::VERTICES],
+    // By each root, the smallest vertex of its tree.
+    pub(crate) low: [u16; Book::VERTICES],
+    // By the smallest vertex of each tree, its figure: the boundary size, with what the choice needs beside it. By any other `Figure::NONE`.
+    pub(crate) figure: [u16; Book::VERTICES],
 }
 
 // A book, and the root of the vertex that was looked for.
@@ -46,48 +55,61 @@ impl Book {
 
     pub(crate) const EDGES: usize = model::limits::EDGES;
 
-    // A fresh book holds every vertex alone.
-    pub(crate) fn fresh(vertices: usize) -> Self
-        requires { ⌜ vertices ≤ vertexLimit ⌝ }
-        ensures { λ r. ⌜ Fresh vertices r ⌝ }
+    // A fresh book holds every vertex alone. It is on the boundary where an end of an edge that isn't full lies at it.
+    pub(crate) fn fresh(
+        vertices: usize,
+        opened: &[u8],
+        syndrome: &[u8],
+        exposure: &[u16; Self::VERTICES],
+    ) -> Self
+        requires { ⌜ Lonely vertices (now opened) (now syndrome) (now exposure) ⌝ }
+        ensures { λ r. ⌜ Fresh vertices (before opened) (before syndrome) (before exposure) r ⌝ }
     {
         let mut parent = [0u16; Self::VERTICES];
         let mut size = [0u16; Self::VERTICES];
         alone(vertices, &mut parent, &mut size);
+        let low = parent;
+        let figure = lone_figures(vertices, opened, syndrome, exposure);
         Self {
             vertices,
             parent,
             size,
+            low,
+            figure,
         }
     }
 
-    // The book of the clusters that the full edges make.
-    pub(crate) fn gathered(vertices: usize, ends: &[u16], support: &[u8]) -> Self
-        requires { ⌜ EndsWithin vertices (length (now support)) (now ends) ⌝ }
+    // The book of the clusters that the full edges make: every vertex alone, then the ends of each full edge fused.
+    pub(crate) fn gathered(
+        vertices: usize,
+        ends: &[u16],
+        opened: &[u8],
+        syndrome: &[u8],
+        support: &[u8],
+        exposure: &[u16; Self::VERTICES],
+    ) -> Self
+        requires { ⌜ Gatherable vertices (now ends) (now opened) (now syndrome) (now support) (now exposure) ⌝ }
         ensures { λ r.
-            ⌜ Holds vertices r (clusters (plain vertices (length (before support)) (before ends)) (before support)) ⌝ }
+            ⌜ TrueBook (unmarked vertices (length (before support)) (before ends) (before opened)) (ones (before syndrome))
+            (before support) r ⌝ }
     {
-        let fresh = Self::fresh(vertices);
-        let mut parent = fresh.parent;
-        let mut size = fresh.size;
+        let mut book = Self::fresh(vertices, opened, syndrome, exposure);
         let mut e = 0;
         while e < support.len() {
             let byte = support[e];
             let half = HalfEdges(byte);
             if half.is_full() {
                 let number = e as u16;
-                let edge = Edge(number);
-                let a = first_end(ends, edge);
-                let b = second_end(ends, edge);
-                join(&mut parent, &mut size, a, b);
+                let lost = Edge(number);
+                let a = first_end(ends, lost);
+                let b = second_end(ends, lost);
+                if apart(&book.parent, a, b) {
+                    book = book.fuse(a, b).book;
+                }
             }
             e += 1;
         }
-        Self {
-            vertices,
-            parent,
-            size,
-        }
+        book
     }
 
     // The root of the vertex's tree. The path that was gone is compressed.
@@ -99,15 +121,19 @@ impl Book {
         let root = root_of(&parent, vertex);
         compress(&mut parent, vertex, root);
         let size = self.size;
+        let low = self.low;
+        let figure = self.figure;
         let book = Book {
             vertices: self.vertices,
             parent,
             size,
+            low,
+            figure,
         };
         Found { book, root }
     }
 
-    // The clusters of a and b as one, the smaller tree hung under the root of the larger.
+    // The clusters of a and b as one, the smaller tree hung under the root of the larger. Their figures add up.
     pub(crate) fn fuse(self, a: Vertex, b: Vertex) -> Fused
         requires { ⌜ BothKept self (a .0) (b .0) ⌝ }
         ensures { λ r. ⌜ Fuses self (a .0) (b .0) r ⌝ }
@@ -120,47 +146,57 @@ impl Book {
         let found = second.book;
         let mut parent = found.parent;
         let mut size = found.size;
+        let mut low = found.low;
+        let mut figure = found.figure;
         let joined = join(&mut parent, &mut size, one, other);
+        merge(joined, &mut low, &mut figure);
         let book = Book {
             vertices: found.vertices,
             parent,
             size,
+            low,
+            figure,
         };
         Fused { book, joined }
     }
 
-    // The ends of each of the first `count` listed edges fused.
-    fn fuse_listed(self, ends: &[u16], filled: &[u16; Self::EDGES], count: usize) -> Book
-        requires { ⌜ Fusable self (now ends) (now filled) count ⌝ }
-        ensures { λ r. ⌜ FusesListed self (before ends) (before filled) count r ⌝ }
+    // The marked vertices grow: each edge that isn't full gains as many half-edges as it has marked ends, up to 2. The ends of newly full edges
+    // are taken off the counts and the figures, and then the clusters that these edges join fuse. The answer is how many edges became full.
+    pub(crate) fn grow(
+        self,
+        ends: &[u16],
+        inside: &[u8; Self::VERTICES],
+        support: &mut [u8],
+        exposure: &mut [u16; Self::VERTICES],
+    ) -> Grown
+        requires { ⌜ Growable self (now ends) (now inside) (now support) (now exposure) ⌝ }
+        ensures { λ r. ⌜ Grows self (before ends) (before inside) (before support) r (after support) (after exposure) ⌝ }
     {
         let mut book = self;
+        let mut filled = [0u16; Self::EDGES];
+        let count = raise(ends, inside, support, &mut filled);
+        let mut figure = book.figure;
+        shut_listed(
+            &book.parent,
+            &book.low,
+            ends,
+            &filled,
+            count,
+            exposure,
+            &mut figure,
+        );
+        book.figure = figure;
         let mut i = 0;
         while i < count {
             let number = filled[i];
             let edge = Edge(number);
             let a = first_end(ends, edge);
             let b = second_end(ends, edge);
-            book = book.fuse(a, b).book;
+            if apart(&book.parent, a, b) {
+                book = book.fuse(a, b).book;
+            }
             i += 1;
         }
-        book
-    }
-
-    // The marked vertices grow: each edge that isn't full gains as many half-edges as it has marked ends, up to 2. Then clusters joined by
-    // newly full edges fuse. The answer is how many edges became full.
-    pub(crate) fn grow(
-        self,
-        ends: &[u16],
-        inside: &[u8; Self::VERTICES],
-        support: &mut [u8],
-    ) -> Grown
-        requires { ⌜ Growable self (now ends) (now inside) (now support) ⌝ }
-        ensures { λ r. ⌜ Grows self (before ends) (before inside) (before support) r (after support) ⌝ }
-    {
-        let mut filled = [0u16; Self::EDGES];
-        let count = raise(ends, inside, support, &mut filled);
-        let book = self.fuse_listed(ends, &filled, count);
         Grown {
             book,
             filled: count,

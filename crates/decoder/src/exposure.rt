@@ -5,27 +5,29 @@ use model::numbers::Edge;
 use model::numbers::HalfEdges;
 use model::numbers::Vertex;
 ghost use mathlib.Core.Path.{_≡_};
-ghost use Prim.Native.Nat.{_<_};
+ghost use Prim.Native.Nat.{_+_};
 ghost use lib.ListN.{length, set};
 ghost use Rattle.model.specs.Board.{EndsWithin, vertexLimit};
+ghost use Rattle.model.specs.Growth.{full};
 ghost use Rattle.model.specs.Lent.{before, after};
-ghost use Rattle.decoder.specs.Exposures.{Exposures};
+ghost use Rattle.union_find.specs.Trees.{at};
+ghost use Rattle.decoder.specs.Exposures.{Countable, Exposures};
 
-// The vertex touches an edge that isn't full.
-fn mark(exposed: &mut [u8; VERTICES], vertex: Vertex)
-    requires { ⌜ (vertex .0 < vertexLimit) × (length (now exposed) ≡ vertexLimit) ⌝ }
-    ensures { λ _. ⌜ after exposed ≡ set (before exposed) (vertex .0) 1 ⌝ }
+// One end more at the vertex.
+fn count_end(exposure: &mut [u16; VERTICES], vertex: Vertex)
+    requires { ⌜ Countable (now exposure) (vertex .0) ⌝ }
+    ensures { λ _. ⌜ after exposure ≡ set (before exposure) (vertex .0) (at (before exposure) (vertex .0) + 1) ⌝ }
 {
-    exposed[vertex.0 as usize] = 1;
+    let v = vertex.0 as usize;
+    exposure[v] = exposure[v] + 1;
 }
 
-// A 1 for each vertex that touches an edge that isn't full, a 0 for each other. A vertex counts once for the boundary of its cluster,
-// however many such edges it touches.
-pub(crate) fn exposure(ends: &[u16], support: &[u8]) -> [u8; VERTICES]
+// For each vertex, how many ends of edges that aren't full lie at it. A vertex is on the boundary of its cluster where there is one.
+pub(crate) fn exposure_of(ends: &[u16], support: &[u8]) -> [u16; VERTICES]
     requires { ⌜ EndsWithin vertexLimit (length (now support)) (now ends) ⌝ }
-    ensures { λ r. ⌜ Exposures (length (before support)) (before ends) (before support) r ⌝ }
+    ensures { λ r. ⌜ Exposures (length (before support)) (before ends) (full (before support)) r ⌝ }
 {
-    let mut exposed = [0u8; VERTICES];
+    let mut exposure = [0u16; VERTICES];
     let mut e = 0;
     while e < support.len() {
         let byte = support[e];
@@ -35,10 +37,10 @@ pub(crate) fn exposure(ends: &[u16], support: &[u8]) -> [u8; VERTICES]
             let edge = Edge(number);
             let a = first_end(ends, edge);
             let b = second_end(ends, edge);
-            mark(&mut exposed, a);
-            mark(&mut exposed, b);
+            count_end(&mut exposure, a);
+            count_end(&mut exposure, b);
         }
         e += 1;
     }
-    exposed
+    exposure
 }

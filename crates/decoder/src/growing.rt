@@ -5,8 +5,10 @@ use crate::odd_clusters::odd_clusters;
 use model::limits::VERTICES;
 ghost use Rattle.model.specs.Lent.{before};
 ghost use Rattle.model.specs.Growth.{weighted};
+ghost use Rattle.union_find.specs.Trees.{Rooted};
+ghost use Rattle.decoder.specs.Figures.{Figurable};
 ghost use Rattle.decoder.specs.Choices.{Choosable};
-ghost use Rattle.decoder.specs.Growing.{policyOf, Follows};
+ghost use Rattle.decoder.specs.Growing.{policyOf, FollowsAll};
 
 // Which clusters grow at a time: the chosen one, or in a round all that are odd.
 pub(crate) enum Growth {
@@ -21,18 +23,11 @@ pub(crate) struct Growing {
 }
 
 // The vertices of the cluster that is chosen.
-fn chosen_cluster(
-    vertices: usize,
-    parent: &[u16; VERTICES],
-    ends: &[u16],
-    opened: &[u8],
-    syndrome: &[u8],
-    support: &[u8],
-) -> Growing
-    requires { ⌜ Choosable vertices (now parent) (now ends) (now opened) (now syndrome) (now support) ⌝ }
-    ensures { λ r. ⌜ Follows weighted vertices (before ends) (before opened) (before syndrome) (before support) r ⌝ }
+fn chosen_cluster(vertices: usize, parent: &[u16; VERTICES], figure: &[u16; VERTICES]) -> Growing
+    requires { ⌜ Rooted vertices (now parent) × Choosable vertices (now figure) ⌝ }
+    ensures { λ r. ⌜ FollowsAll weighted vertices (before parent) (before figure) r ⌝ }
 {
-    match choose(vertices, parent, ends, opened, syndrome, support) {
+    match choose(vertices, figure) {
         Chosen::Nothing => {
             let inside = [0u8; VERTICES];
             Growing { inside, any: false }
@@ -44,21 +39,19 @@ fn chosen_cluster(
     }
 }
 
-// The vertices that grow next, of the trees that are the clusters of the supports.
-pub(crate) fn next(
+// The vertices that grow next, by what the book keeps.
+pub(crate) fn next<'a>(
     growth: Growth,
     vertices: usize,
-    parent: &[u16; VERTICES],
-    ends: &[u16],
-    opened: &[u8],
-    syndrome: &[u8],
-    support: &[u8],
+    parent: &'a [u16; VERTICES],
+    low: &'a [u16; VERTICES],
+    figure: &'a [u16; VERTICES],
 ) -> Growing
-    requires { ⌜ Choosable vertices (now parent) (now ends) (now opened) (now syndrome) (now support) ⌝ }
-    ensures { λ r. ⌜ Follows (policyOf growth) vertices (before ends) (before opened) (before syndrome) (before support) r ⌝ }
+    requires { ⌜ Figurable vertices (now parent) (now low) (now figure) ⌝ }
+    ensures { λ r. ⌜ FollowsAll (policyOf growth) vertices (before parent) (before figure) r ⌝ }
 {
     match growth {
-        Growth::Weighted => chosen_cluster(vertices, parent, ends, opened, syndrome, support),
-        Growth::Rounds => odd_clusters(vertices, parent, opened, syndrome),
+        Growth::Weighted => chosen_cluster(vertices, parent, figure),
+        Growth::Rounds => odd_clusters(vertices, parent, low, figure),
     }
 }

@@ -1,6 +1,5 @@
 use crate::growing::Growth;
 use crate::growth::run;
-use crate::growth::start;
 use crate::labels::labels_of;
 use crate::odd_ends::odd_ends;
 use board::outcome::FoundVertex;
@@ -10,7 +9,8 @@ use peeling::peel;
 ghost use mathlib.Core.Path.{_≡_};
 ghost use Rattle.model.specs.Lent.{before, after};
 ghost use Rattle.decoder.specs.Growing.{policyOf};
-ghost use Rattle.decoder.specs.Keys.{bare, Keyable, Keys, writtenBytes};
+ghost use Rattle.decoder.specs.Runs.{bare};
+ghost use Rattle.decoder.specs.Keys.{Keyable, Keys, writtenBytes};
 
 // A key, with the number of growths or rounds and that of correction edges, or a refusal.
 pub(crate) enum Solved {
@@ -37,9 +37,8 @@ pub(crate) fn key(
     if let FoundVertex::At(v) = first_odd(vertices, ends, opened, syndrome) {
         return Solved::Refused(Refusal::NoCorrection(v));
     }
-    let book = start(vertices, ends, loss, support);
-    let ran = run(growth, book, ends, opened, syndrome, support);
-    let labels = labels_of(vertices, &ran.book.parent);
+    let ran = run(growth, vertices, ends, opened, syndrome, loss, support);
+    let labels = labels_of(vertices, &ran.book.parent, &ran.book.low);
     let lit = odd_ends(&labels, opened, syndrome);
     let edges = peel(vertices, ends, support, &lit[..vertices], correction);
     Solved::Key {

@@ -3,13 +3,15 @@
 mod book;
 mod choice;
 mod exposure;
+mod figure;
 mod growing;
 mod growth;
 mod key;
 mod labels;
+mod merging;
 mod odd_clusters;
-mod odd_counts;
 mod odd_ends;
+mod shutting;
 mod solve;
 mod support;
 mod tally;

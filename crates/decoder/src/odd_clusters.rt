@@ -1,41 +1,33 @@
+use crate::figure::Figure;
 use crate::growing::Growing;
-use crate::labels::labels_of;
-use crate::odd_counts::odd_counts;
+use crate::labels::name_of;
 use model::limits::VERTICES;
+use model::numbers::Vertex;
 ghost use Rattle.model.specs.Lent.{before};
-ghost use Rattle.decoder.specs.Tallies.{Tallied};
-ghost use Rattle.decoder.specs.OddClusters.{labelledOdd, MarksOdd, Countable, FindsOdd};
+ghost use Rattle.decoder.specs.Figures.{Figurable};
+ghost use Rattle.decoder.specs.OddClusters.{oddlyNamed, MarksOdd};
 
-// The vertices whose label has an odd count.
-fn mark_odd(vertices: usize, labels: &[u16; VERTICES], lit: &[u16; VERTICES]) -> Growing
-    requires { ⌜ Tallied vertices (now labels) ⌝ }
-    ensures { λ r. ⌜ MarksOdd vertices (labelledOdd (before labels) (before lit)) r ⌝ }
+// The vertices of all odd clusters: those in whose cluster a figure below `EVEN` is kept.
+pub(crate) fn odd_clusters(
+    vertices: usize,
+    parent: &[u16; VERTICES],
+    low: &[u16; VERTICES],
+    figure: &[u16; VERTICES],
+) -> Growing
+    requires { ⌜ Figurable vertices (now parent) (now low) (now figure) ⌝ }
+    ensures { λ r. ⌜ MarksOdd vertices (oddlyNamed (before parent) (before low) (before figure)) r ⌝ }
 {
     let mut inside = [0u8; VERTICES];
     let mut any = false;
     let mut v = 0;
     while v < vertices {
-        let a = labels[v] as usize;
-        if lit[a] % 2 == 1 {
+        let number = v as u16;
+        let name = name_of(parent, low, Vertex(number));
+        if figure[name.0 as usize] < Figure::EVEN {
             inside[v] = 1;
             any = true;
         }
         v += 1;
     }
     Growing { inside, any }
-}
-
-// The vertices of all odd clusters, as the clusters are now.
-pub(crate) fn odd_clusters(
-    vertices: usize,
-    parent: &[u16; VERTICES],
-    opened: &[u8],
-    syndrome: &[u8],
-) -> Growing
-    requires { ⌜ Countable vertices (now parent) (now opened) (now syndrome) ⌝ }
-    ensures { λ r. ⌜ FindsOdd vertices (before parent) (before opened) (before syndrome) r ⌝ }
-{
-    let labels = labels_of(vertices, parent);
-    let lit = odd_counts(&labels, opened, syndrome);
-    mark_odd(vertices, &labels, &lit)
 }

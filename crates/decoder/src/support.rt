@@ -52,7 +52,11 @@ fn lift(ends: &[u16], inside: &[u8; VERTICES], support: &mut [u8], edge: Edge) -
     if before.is_full() {
         return false;
     }
-    let after = raised(before, gain(ends, inside, edge));
+    let gained = gain(ends, inside, edge);
+    if gained.0 == 0 {
+        return false; // most edges touch no cluster that grows
+    }
+    let after = raised(before, gained);
     support[e] = after.0;
     after.is_full()
 }

@@ -1,16 +1,16 @@
 -- Counts of the numbers below n that are in a set. Assumes nothing.
 use Prim.Native.Nat.{ℕ, zero, suc, _+_, _%_, _≤_, _<_}
-use mathlib.Core.Path.{_≡_, refl, ap, ap₂, _∙_}
-use mathlib.Core.Bool.{Bool, true, false}
+use mathlib.Core.Path.{_≡_, refl, sym, ap, ap₂, _∙_}
+use mathlib.Core.Bool.{Bool, true, false, _||_, or-true, or-false}
 use mathlib.Core.Logic.{_≢_}
 use native.Mathlib.Nat.{not-suc-le-zero, le-refl}
 use native.Mathlib.Decide.{decLt}
 use native.Mathlib.Numerals.{add-one}
 use native.Mathlib.Omega.{arith}
-use borrow.Author.Tests.{eqb-true, eqb-false, eq-eqb, ne-eqb}
-use lib.Dec.{eqb}
-use Rattle.model.specs.Sums.{Set, _⊕_, bit, countUpTo, oddUpTo}
-use Rattle.model.proofs.SumLaws.{below-suc, count-bound, count-cong}
+use borrow.Author.Tests.{eqb-true, eqb-false, eq-eqb, ne-eqb, lt-ltb}
+use lib.Dec.{eqb, ltb}
+use Rattle.model.specs.Sums.{Set, _⊕_, bit, countUpTo, oddUpTo, someUpTo}
+use Rattle.model.proofs.SumLaws.{below-suc, count-bound, count-cong, count-none}
 use Rattle.model.proofs.Bits.{bit-bound}
 
 -- one number more
@@ -96,6 +96,33 @@ count-more (suc n) i f g h p q same =
     below-suc n i h
     (λ l. ap₂ (λ x b. x + bit b) (count-more n i f g l p q same) (same n (λ r. omega arith)) ∙ omega arith)
     (λ r. rw (rw r at p, rw r at q, count-cong n g f (λ j l. same j (λ s. omega arith))) (omega arith))
+
+-- a set of which only the number a may be a member
+pub count-one : (n a : ℕ) (f : Set) → a < n → ((i : ℕ) → i < n → (i ≡ a → ⊥) → f i ≡ false) → countUpTo n f ≡ bit (f a)
+unfolding countUpTo
+count-one zero a f h out = absurd (not-suc-le-zero h)
+count-one (suc n) a f h out =
+    below-suc n a h
+    (λ l. omega (arith, count-one n a f l (λ i k. out i (omega arith)), ap bit (out n (le-refl _) (λ q. omega arith))))
+    (λ q. rw q (omega (arith, count-none n f (λ i k. out i (omega arith) (λ e. omega arith)))))
+
+-- a count of two sets together is above 0 exactly where one of them has a member
+pub counts-some : (n : ℕ) (f g h : Set) → ((i : ℕ) → i < n → h i ≡ (f i || g i)) → ltb 0 (countUpTo n f + countUpTo n g) ≡ someUpTo n h
+unfolding countUpTo someUpTo
+counts-some zero f g h same = refl
+counts-some (suc n) f g h same =
+    rw (same n (le-refl _)) (go (f n) (g n) (someUpTo n h) (counts-some n f g h (λ i l. same i (omega arith))))
+  where
+    x : ℕ
+    x = countUpTo n f
+
+    y : ℕ
+    y = countUpTo n g
+
+    go : (a b t : Bool) → ltb 0 (x + y) ≡ t → ltb 0 ((x + bit a) + (y + bit b)) ≡ (t || (a || b))
+    go true b t p = lt-ltb 0 ((x + 1) + (y + bit b)) (omega arith) ∙ sym (or-true t)
+    go false true t p = lt-ltb 0 ((x + 0) + (y + 1)) (omega arith) ∙ sym (or-true t)
+    go false false t p = ap (ltb 0) {x = (x + 0) + (y + 0)} {y = x + y} (omega arith) ∙ p ∙ sym (or-false t)
 
 -- an odd count is an odd number of ones
 pub count-parity : (n : ℕ) (f : Set) → eqb (countUpTo n f % 2) 1 ≡ oddUpTo n f

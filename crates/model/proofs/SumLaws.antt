@@ -1,7 +1,7 @@
 -- Laws of what is added up, counted or looked for below a bound. Assumes nothing.
 use Prim.Native.Nat.{ℕ, zero, suc, _+_, _≤_, _<_}
 use mathlib.Core.Path.{_≡_, refl, sym, ap, ap₂, _∙_}
-use mathlib.Core.Bool.{Bool, true, false, cond, _&&_, _||_, and-true, and-false, false≢true}
+use mathlib.Core.Bool.{Bool, true, false, cond, _&&_, _||_, and-true, and-false, or-false, false≢true}
 use mathlib.Core.Logic.{⊎-elim}
 use mathlib.Core.Option.{Option, none, some, Option·none-ne-some, Option·some-ne-none}
 use native.Mathlib.Nat.{le-refl, le-of-suc-le-suc, not-suc-le-zero, eq-or-lt-of-le}
@@ -123,6 +123,27 @@ pub some-cong : (n : ℕ) (f g : Set) → ((i : ℕ) → i < n → f i ≡ g i) 
 unfolding someUpTo
 some-cong zero f g same = refl
 some-cong (suc n) f g same = ap₂ _||_ (some-cong n f g (λ i h. same i (omega arith))) (same n (le-refl _))
+
+-- some number in either: some in the one or some in the other
+pub some-or : (n : ℕ) (f g : Set) → someUpTo n (λ i. f i || g i) ≡ (someUpTo n f || someUpTo n g)
+unfolding someUpTo
+some-or zero f g = refl
+some-or (suc n) f g = rw (some-or n f g) (go (someUpTo n f) (someUpTo n g) (f n) (g n))
+  where
+    go : (x y a b : Bool) → ((x || y) || (a || b)) ≡ ((x || a) || (y || b))
+    go true y a b = refl
+    go false true true b = refl
+    go false true false b = refl
+    go false false a b = refl
+
+-- a set of which only the number a may be a member
+pub some-one : (n a : ℕ) (f : Set) → a < n → ((i : ℕ) → i < n → (i ≡ a → ⊥) → f i ≡ false) → someUpTo n f ≡ f a
+unfolding someUpTo
+some-one zero a f h out = absurd (not-suc-le-zero h)
+some-one (suc n) a f h out =
+    below-suc n a h
+    (λ l. ap₂ _||_ (some-one n a f l (λ i k. out i (omega arith))) (out n (le-refl _) (λ q. omega arith)) ∙ or-false (f a))
+    (λ q. rw q (ap (λ t. t || f n) (none-some n f (λ i k. out i (omega arith) (λ e. omega arith)))))
 
 -- The first
 

@@ -16,7 +16,7 @@ use Rattle.model.specs.Components.{label, merge, labelsUpTo}
 use Rattle.model.proofs.ListLaws.{getD-values}
 use Rattle.union_find.specs.declared.Joined.{Joined}
 use Rattle.union_find.specs.Trees.{Trees, Alone, moved, rootOf}
-use Rattle.union_find.specs.Joining.{Joins, Mirrors}
+use Rattle.union_find.specs.Joining.{Joins, sameRoot, Mirrors}
 use Rattle.union_find.proofs.Moved.{moved-same}
 use Rattle.union_find.proofs.Fresh.{alone-root}
 use Rattle.union_find.proofs.Unions.{joins-same}
@@ -44,16 +44,23 @@ merge-same a b l u v hu hv =
           rw (hi, lo)
     ]
 
--- joining two vertices in the trees, and their labels in the list
-pub mirrors-merge : {n : ℕ} {p s l : List ℕ} {a b : ℕ} → Mirrors n p l → Trees n p s → n ≤ length l → a < n → b < n
-    → {r : Joined} {p′ s′ : List ℕ} → Joins p s a b r p′ s′ → Mirrors n p′ (merge (label l a) (label l b) l)
-mirrors-merge {n} {p} {s} {l} {a} {b} m t long ha hb k =
+-- two trees as one, and their labels in the list
+pub mirrors-united : {n : ℕ} {p p′ l : List ℕ} {a b : ℕ} → Mirrors n p l → n ≤ length l → a < n → b < n
+    → ((u v : ℕ) → u < n → v < n
+    → sameRoot p′ u v ≡ (sameRoot p u v || ((sameRoot p u a || sameRoot p u b) && (sameRoot p v a || sameRoot p v b))))
+    → Mirrors n p′ (merge (label l a) (label l b) l)
+mirrors-united {l = l} {a = a} {b = b} m long ha hb one =
     record {
       same = λ u v hu hv.
-          joins-same t ha hb k u v hu hv
+          one u v hu hv
           ∙ rw (m .same u v hu hv, m .same u a hu ha, m .same u b hu hb, m .same v a hv ha, m .same v b hv hb)
           (sym (merge-same (label l a) (label l b) l u v (omega arith) (omega arith)));
     }
+
+-- so it is where they are joined
+pub mirrors-merge : {n : ℕ} {p s l : List ℕ} {a b : ℕ} → Mirrors n p l → Trees n p s → n ≤ length l → a < n → b < n
+    → {r : Joined} {p′ s′ : List ℕ} → Joins p s a b r p′ s′ → Mirrors n p′ (merge (label l a) (label l b) l)
+mirrors-merge m t long ha hb k = mirrors-united m long ha hb (joins-same t ha hb k)
 
 module _ (B : Board) (F : Set) {p : List ℕ} where
   -- at first every vertex is alone

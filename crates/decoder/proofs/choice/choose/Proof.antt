@@ -1,57 +1,81 @@
--- `choose` meets its contract. Assumes nothing.
-use mathlib.Core.Path.{_∙_}
-use Rattle.model.proofs.EndLaws.{within-limit}
-use Rattle.decoder.proofs.ChoiceLaws.{taken-length, names-tallied, names-counted, tallies-sized, chooses}
+-- `choose` meets its contract: each turn sets one figure against the best so far. Assumes nothing.
+use Prim.Native.Nat.{_≤_, _-_}
+use mathlib.Core.Path.{_≡_, sym}
+use mathlib.Core.Logic.{⊎-elim}
+use native.Mathlib.Numerals.{add-one}
+use native.Mathlib.Omega.{arith}
 use borrow.Author.Needs.{needs}
+use Rattle.union_find.specs.Trees.{at}
+use Rattle.decoder.proofs.Choosing.{Best, best-none, best-taken, best-kept, best-is-none, best-is-chosen}
 use Rattle.decoder.proofs.choice.choose.Statement.{statement}
 use Rattle.decoder.proofs.choice.choose.Tie as tie
 
-labels-of-requires : tie.Need-labels-of-requires
-labels-of-requires c κs = search needs
+abbrev Inv-loop : tie.InvT-loop
+Inv-loop vertices figure chosen₀ least₀ a₀ chosen least a = (a ≤ vertices) × Best a (at figure) least (chosen .0)
 
-odd-counts-requires : tie.Need-odd-counts-requires
-odd-counts-requires c κs =
-    let pre = c .before .before .before .before .before .before .pre in
-    names-counted (pre .lent .vertex-limit) (pre .open-bytes) (pre .lit) (c .before .labels-of .ensures)
+abbrev μ-loop : tie.MeasureT-loop
+μ-loop vertices figure chosen₀ least₀ a₀ chosen least a = vertices - a
 
-exposure-requires : tie.Need-exposure-requires
-exposure-requires c κs = within-limit (c .before .before .before .before .before .before .before .pre .lent)
+loop-holds : tie.Need-loop-holds Inv-loop μ-loop
+loop-holds c = (search needs, best-none _ _)
 
-array-share-prefix-exposed : tie.Need-array-share-prefix-exposed
-array-share-prefix-exposed c = search needs
+mul-if1 : tie.Need-mul-if1 Inv-loop μ-loop
+mul-if1 c = search needs
 
-slice-aggregate-tally : tie.Need-slice-aggregate-tally
-slice-aggregate-tally c =
-    let pre = c .before .before .before .before .before .before .before .before .before .before .pre in
-    taken-length (pre .lent .vertex-limit) (c .before .before .exposure .ensures)
+element-copy-out-if1 : tie.Need-element-copy-out-if1 Inv-loop μ-loop
+element-copy-out-if1 c = search needs
 
-tally-requires : tie.Need-tally-requires
-tally-requires c κs =
-    let few = c .before .before .before .before .before .before .before .before .before .before .pre .lent .vertex-limit in
-    names-tallied few (taken-length few (c .before .before .exposure .ensures)) (c .before .before .before .before .before .labels-of .ensures)
+cast-label : tie.Need-cast-label Inv-loop μ-loop
+cast-label c = search needs
 
-least-requires : tie.Need-least-requires
-least-requires c κs =
-    let few = c .before .before .before .before .before .before .before .before .before .before .before .before .before .pre .lent .vertex-limit in
-    tallies-sized few (taken-length few (c .before .before .before .before .before .exposure .ensures)) (c .before .before .tally .ensures)
+mul-least : tie.Need-mul-least Inv-loop μ-loop
+mul-least c = search needs
 
-returns : tie.Need-returns
+element-copy-out-least : tie.Need-element-copy-out-least Inv-loop μ-loop
+element-copy-out-least c = search needs
+
+add-a : tie.Need-add-a Inv-loop μ-loop
+add-a c = search needs
+
+loop-less : tie.Need-loop-less Inv-loop μ-loop
+loop-less c = search needs
+
+loop-again : tie.Need-loop-again Inv-loop μ-loop
+loop-again c =
+    let at-loop = c .before .before .before in
+    let before = at-loop .loop .inv .1 in (
+      search needs,
+      rw add-one
+          (⊎-elim
+          (λ w. rw (w .2, w .3) (best-taken _ _ _ _ (w .0 .taken) before))
+          (λ w. rw (w .1, w .2) (best-kept _ _ _ _ (omega (arith, w .0 .left)) before))
+          (c .if1 .came)),
+    )
+
+returns : tie.Need-returns Inv-loop μ-loop
 returns c =
-    let marked = c .before .before .before .before .before .before in
-    let named = marked .before .before .before in
-    c .least .ensures
-    ∙ chooses _ _ _ _ _ _ (named .before .before .before .before .before .pre) (named .labels-of .ensures) (marked .before .odd-counts .ensures) (marked .exposure .ensures)
-    (c .before .before .before .tally .ensures)
+    let p : c .before .before .before .args .vertices ≡ c .before .before .loop .a = omega arith in
+    rw p (sym (best-is-none (c .if2 .taken) (c .before .before .loop .inv .1)))
+
+returns-2 : tie.Need-returns-2 Inv-loop μ-loop
+returns-2 c =
+    let p : c .before .before .before .args .vertices ≡ c .before .before .loop .a = omega arith in
+    rw p (sym (best-is-chosen (c .if2 .left) (c .before .before .loop .inv .1)))
 
 pub choose-spec : {M : Type 1} → statement M
 choose-spec =
     tie.close
     (tie.spec
-    labels-of-requires
-    odd-counts-requires
-    exposure-requires
-    array-share-prefix-exposed
-    slice-aggregate-tally
-    tally-requires
-    least-requires
-    returns)
+    Inv-loop
+    μ-loop
+    loop-holds
+    mul-if1
+    element-copy-out-if1
+    cast-label
+    mul-least
+    element-copy-out-least
+    add-a
+    loop-less
+    loop-again
+    returns
+    returns-2)

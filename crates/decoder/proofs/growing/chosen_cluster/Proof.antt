@@ -1,8 +1,9 @@
--- `chosen_cluster` meets its contract: document 01's step 3. Assumes nothing.
+-- `chosen_cluster` meets its contract. Assumes nothing.
 use mathlib.Core.Path.{sym, ap, _∙_}
-use Rattle.decoder.specs.Choices.{chosenOf}
-use Rattle.decoder.proofs.Following.{follows-none, chosen-rooted, follows-chosen}
 use borrow.Author.Needs.{needs}
+use Rattle.decoder.specs.Choices.{chosenOf}
+use Rattle.decoder.proofs.ChoiceLaws.{least-below}
+use Rattle.decoder.proofs.Following.{follows-none, follows-chosen}
 use Rattle.decoder.proofs.growing.chosen_cluster.Statement.{statement}
 use Rattle.decoder.proofs.growing.chosen_cluster.Tie as tie
 
@@ -17,23 +18,23 @@ enum-known-cluster c = search needs
 
 tree-of-requires : tie.Need-tree-of-requires
 tree-of-requires c κs =
-    let met = c .before in
-    let chose = met .before .before in
-    let start = chose .before .before .before .before .before in
-    chosen-rooted _ _ _ _ _ _ (start .pre) _ (sym (chose .choose .ensures) ∙ ap chosenOf (met .cluster .given .1))
+    let chose = c .before .before .before in
+    record {
+      rooted = chose .before .pre .0;
+      vertex = least-below _ _ _ _ (sym (chose .choose .ensures) ∙ ap chosenOf (c .before .cluster .given .1));
+    }
 
 returns : tie.Need-returns
 returns c =
     let chose = c .before .before in
-    let start = chose .before .before .before .before .before in
-    follows-none _ _ _ _ _ _ (start .pre) (sym (chose .choose .ensures) ∙ ap chosenOf (c .enum-told .given .1)) _
+    follows-none _ _ _ (chose .before .pre .1 .few) (sym (chose .choose .ensures) ∙ ap chosenOf (c .enum-told .given .1)) _
 
 returns-2 : tie.Need-returns-2
 returns-2 c =
-    let met = c .before .before in
-    let chose = met .before .before in
-    let start = chose .before .before .before .before .before in
-    follows-chosen _ _ _ _ _ _ (start .pre) _ (sym (chose .choose .ensures) ∙ ap chosenOf (met .cluster .given .1)) _ (c .tree-of .ensures)
+    let chose = c .before .before .before .before in
+    follows-chosen _ _ _ (chose .before .pre .1 .few) _ (sym (chose .choose .ensures) ∙ ap chosenOf (c .before .before .cluster .given .1)) _ (c .tree-of .ensures)
 
 pub chosen-cluster-spec : {M : Type 1} → statement M
-chosen-cluster-spec = tie.close (tie.spec choose-requires enum-told enum-known-cluster tree-of-requires returns returns-2)
+chosen-cluster-spec =
+    tie.close
+    (tie.spec choose-requires enum-told enum-known-cluster tree-of-requires returns returns-2)

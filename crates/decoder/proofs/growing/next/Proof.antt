@@ -1,6 +1,6 @@
--- `next` meets its contract: by the policy that is asked for. Assumes nothing.
-use Rattle.decoder.proofs.Following.{follows-odd}
+-- `next` meets its contract. Assumes nothing.
 use borrow.Author.Needs.{needs}
+use Rattle.decoder.proofs.Following.{follows-odd}
 use Rattle.decoder.proofs.growing.next.Statement.{statement}
 use Rattle.decoder.proofs.growing.next.Tie as tie
 
@@ -21,9 +21,16 @@ returns c = rw (c .before .enum-told .given .1) (c .chosen-cluster .ensures)
 
 returns-2 : tie.Need-returns-2
 returns-2 c =
-    let told = c .before in
-    let start = told .before .before .before .before .before .before in
-    rw (told .enum-told2 .given .1) (follows-odd _ _ _ _ _ _ (start .pre) _ (c .odd-clusters .ensures))
+    let pre = c .before .before .before .pre in
+    rw (c .before .enum-told2 .given .1) (follows-odd _ _ _ (pre .rooted .climbs .limit) _ (pre .lows) _ (c .odd-clusters .ensures))
 
 pub next-spec : {M : Type 1} → statement M
-next-spec = tie.close (tie.spec enum-told chosen-cluster-requires enum-told-2 odd-clusters-requires returns returns-2)
+next-spec =
+    tie.close
+    (tie.spec
+    enum-told
+    chosen-cluster-requires
+    enum-told-2
+    odd-clusters-requires
+    returns
+    returns-2)

@@ -1,7 +1,7 @@
--- `key` meets its contract: number 10, or start, run, odd ends and peel. Assumes nothing.
+-- `key` meets its contract: number 10, or run, odd ends and peel. Assumes nothing.
 use borrow.Author.Needs.{needs}
 use mathlib.Core.Path.{sym}
-use Rattle.decoder.proofs.Keying.{searchable, shows-odd, startable, runnable, rooted-there, markable, front-long, peelable, keyed}
+use Rattle.decoder.proofs.Keying.{searchable, shows-odd, runnable, nameable, markable, front-long, peelable, keyed}
 use Rattle.decoder.proofs.key.key.Statement.{statement}
 use Rattle.decoder.proofs.key.key.Tie as tie
 
@@ -22,40 +22,30 @@ returns c =
 enum-told : tie.Need-enum-told
 enum-told c = search needs
 
-start-requires : tie.Need-start-requires
-start-requires c κs =
+run-requires : tie.Need-run-requires
+run-requires c κs =
     let told = c .before in
     let looked = told .before .before in
     let start = looked .before .before .before .before .before .before .before in
-    startable (start .args .growth) _ _ _ _ _ _ _ (start .pre) _ (looked .first-odd .ensures) (told .enum-told .given .1)
-
-run-requires : tie.Need-run-requires
-run-requires c κs =
-    let started = c .before .before .before in
-    let told = started .before .before in
-    let looked = told .before .before in
-    let start = looked .before .before .before .before .before .before .before in
-    runnable (start .args .growth) _ _ _ _ _ _ _ (start .pre) _ (looked .first-odd .ensures) (told .enum-told .given .1) _ _ (started .start .ensures)
+    runnable (start .args .growth) _ _ _ _ _ _ _ (start .pre) _ (looked .first-odd .ensures) (told .enum-told .given .1)
 
 labels-of-requires : tie.Need-labels-of-requires
 labels-of-requires c κs =
-    let ran = c .before .before .before .before in
-    let started = ran .before .before .before .before in
-    let told = started .before .before in
+    let ran = c .before .before .before .before .before in
+    let told = ran .before .before in
     let looked = told .before .before in
     let start = looked .before .before .before .before .before .before .before in
-    rooted-there (start .args .growth) _ _ _ _ _ _ _ (start .pre) _ (looked .first-odd .ensures) (told .enum-told .given .1) _ _ (started .start .ensures)
+    nameable (start .args .growth) _ _ _ _ _ _ _ (start .pre) _ (looked .first-odd .ensures) (told .enum-told .given .1)
     _ _ (ran .run .ensures)
 
 odd-ends-requires : tie.Need-odd-ends-requires
 odd-ends-requires c κs =
     let named = c .before in
-    let ran = named .before .before .before .before .before in
-    let started = ran .before .before .before .before in
-    let told = started .before .before in
+    let ran = named .before .before .before .before .before .before in
+    let told = ran .before .before in
     let looked = told .before .before in
     let start = looked .before .before .before .before .before .before .before in
-    markable (start .args .growth) _ _ _ _ _ _ _ (start .pre) _ (looked .first-odd .ensures) (told .enum-told .given .1) _ _ (started .start .ensures)
+    markable (start .args .growth) _ _ _ _ _ _ _ (start .pre) _ (looked .first-odd .ensures) (told .enum-told .given .1)
     _ _ (ran .run .ensures) _ (named .labels-of .ensures)
 
 array-share-prefix-lit : tie.Need-array-share-prefix-lit
@@ -65,24 +55,22 @@ slice-aggregate-peel : tie.Need-slice-aggregate-peel
 slice-aggregate-peel c =
     let marked = c .before .before in
     let named = marked .before .before in
-    let ran = named .before .before .before .before .before in
-    let started = ran .before .before .before .before in
-    let told = started .before .before in
+    let ran = named .before .before .before .before .before .before in
+    let told = ran .before .before in
     let looked = told .before .before in
     let start = looked .before .before .before .before .before .before .before in
-    sym (front-long (start .args .growth) _ _ _ _ _ _ _ (start .pre) _ (looked .first-odd .ensures) (told .enum-told .given .1) _ _ (started .start .ensures)
+    sym (front-long (start .args .growth) _ _ _ _ _ _ _ (start .pre) _ (looked .first-odd .ensures) (told .enum-told .given .1)
     _ _ (ran .run .ensures) _ (named .labels-of .ensures) _ (marked .odd-ends .ensures))
 
 peel-requires : tie.Need-peel-requires
 peel-requires c κs =
     let marked = c .before .before .before in
     let named = marked .before .before in
-    let ran = named .before .before .before .before .before in
-    let started = ran .before .before .before .before in
-    let told = started .before .before in
+    let ran = named .before .before .before .before .before .before in
+    let told = ran .before .before in
     let looked = told .before .before in
     let start = looked .before .before .before .before .before .before .before in
-    peelable (start .args .growth) _ _ _ _ _ _ _ (start .pre) _ (looked .first-odd .ensures) (told .enum-told .given .1) _ _ (started .start .ensures)
+    peelable (start .args .growth) _ _ _ _ _ _ _ (start .pre) _ (looked .first-odd .ensures) (told .enum-told .given .1)
     _ _ (ran .run .ensures) _ (named .labels-of .ensures) _ (marked .odd-ends .ensures)
 
 same-length : tie.Need-same-length
@@ -96,12 +84,11 @@ returns-2 c =
     let peeled = c .before .before in
     let marked = peeled .before .before .before .before in
     let named = marked .before .before in
-    let ran = named .before .before .before .before .before in
-    let started = ran .before .before .before .before in
-    let told = started .before .before in
+    let ran = named .before .before .before .before .before .before in
+    let told = ran .before .before in
     let looked = told .before .before in
     let start = looked .before .before .before .before .before .before .before in
-    keyed (start .args .growth) _ _ _ _ _ _ _ (start .pre) _ (looked .first-odd .ensures) (told .enum-told .given .1) _ _ (started .start .ensures)
+    keyed (start .args .growth) _ _ _ _ _ _ _ (start .pre) _ (looked .first-odd .ensures) (told .enum-told .given .1)
     _ _ (ran .run .ensures) _ (named .labels-of .ensures) _ (marked .odd-ends .ensures)
     _ _ (peeled .peel .ensures)
 
@@ -113,7 +100,6 @@ key-spec =
     enum-known-v
     returns
     enum-told
-    start-requires
     run-requires
     labels-of-requires
     odd-ends-requires

@@ -30,10 +30,10 @@ mul-a c = search needs
 
 -- there are a label and a mark for each vertex, and its label is within the limit
 few-vertices : (t : tie.In-loop Inv-loop μ-loop) → t .before .loop .v < vertexLimit
-few-vertices t = omega (arith, t .loop-test .taken, t .before .before .before .before .before .pre .counted .labelled .few)
+few-vertices t = omega (arith, t .loop-test .taken, t .before .before .before .before .before .pre .labelled .few)
 
 label-below : (t : tie.In-loop Inv-loop μ-loop) → label (t .before .before .before .before .before .args .labels .now) (t .before .loop .v) < vertexLimit
-label-below t = t .before .before .before .before .before .pre .counted .labelled .inside (t .before .loop .v) (t .loop-test .taken)
+label-below t = t .before .before .before .before .before .pre .labelled .inside (t .before .loop .v) (t .loop-test .taken)
 
 element-copy-out-a : tie.Need-element-copy-out-a Inv-loop μ-loop
 element-copy-out-a c = few-vertices c
@@ -44,7 +44,7 @@ cast-a c = omega (arith, label-below (c .before))
 shared-slice-read-if1 : tie.Need-shared-slice-read-if1 Inv-loop μ-loop
 shared-slice-read-if1 c =
     let turn = c .before .before in
-    omega (arith, turn .loop-test .taken, turn .before .before .before .before .before .pre .counted .open-bytes)
+    omega (arith, turn .loop-test .taken, turn .before .before .before .before .before .pre .open-bytes)
 
 mul-if1 : tie.Need-mul-if1 Inv-loop μ-loop
 mul-if1 c = omega (arith, label-below (c .before .before))

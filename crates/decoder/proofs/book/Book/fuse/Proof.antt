@@ -1,7 +1,6 @@
 -- `fuse` meets its contract. Assumes nothing.
-use Rattle.decoder.proofs.BookLaws.{roots-joinable, fuses}
 use borrow.Author.Needs.{needs}
-use borrow.Author.Needs.{needs}
+use Rattle.decoder.proofs.BookLaws.{roots-joinable, fuse-mergeable, fuses}
 use Rattle.decoder.proofs.book.Book.fuse.Statement.{statement}
 use Rattle.decoder.proofs.book.Book.fuse.Tie as tie
 
@@ -13,15 +12,24 @@ find-requires-2 c κs = search needs
 
 join-requires : tie.Need-join-requires
 join-requires c κs =
-    let first = c .before .before .before .before .before .before .before .before .before in
-    let start = first .before in
-    roots-joinable (start .args .self) _ _ (start .pre) _ _ (first .find .ensures) (c .before .before .before .before .before .before .find2 .ensures)
+    let second = c .before .before .before .before .before .before .before .before in
+    let first = second .before .before .before in
+    roots-joinable (first .before .args .self) _ _ (first .before .pre) _ _ (first .find .ensures) (second .find2 .ensures)
+
+merge-requires : tie.Need-merge-requires
+merge-requires c κs =
+    let joined = c .before .before in
+    let second = joined .before .before .before .before .before .before .before .before .before in
+    let first = second .before .before .before in
+    fuse-mergeable (first .before .args .self) _ _ (first .before .pre) _ _ (first .find .ensures) (second .find2 .ensures) _ _ _ (joined .join .ensures)
 
 returns : tie.Need-returns
 returns c =
-    let first = c .before .before .before .before .before .before .before .before .before .before in
-    let start = first .before in
-    fuses (start .args .self) _ _ (start .pre) _ _ (first .find .ensures) (c .before .before .before .before .before .before .before .find2 .ensures) _ _ _ (c .join .ensures)
+    let joined = c .before .before .before in
+    let second = joined .before .before .before .before .before .before .before .before .before in
+    let first = second .before .before .before in
+    fuses (first .before .args .self) _ _ (first .before .pre) _ _ (first .find .ensures) (second .find2 .ensures) _ _ _ (joined .join .ensures)
+    _ _ (c .merge .ensures)
 
 pub fuse-spec : {M : Type 1} → statement M
-fuse-spec = tie.close (tie.spec find-requires find-requires-2 join-requires returns)
+fuse-spec = tie.close (tie.spec find-requires find-requires-2 join-requires merge-requires returns)
