@@ -1,5 +1,5 @@
 -- The arithmetic of figures: what a figure says can be read off it, and the sum of two figures is the figure of both. Assumes nothing.
-use Prim.Native.Nat.{ℕ, _+_, _/_, _%_, _≤_, _<_}
+use Prim.Native.Nat.{ℕ, _+_, _/_, _%_, _<_}
 use mathlib.Core.Path.{_≡_, refl}
 use mathlib.Core.Bool.{Bool, true, false, cond, not, _&&_, _||_, false≢true}
 use native.Mathlib.Omega.{arith}
@@ -40,11 +40,6 @@ pub figure-is-size : (x : ℕ) (lit holds : Bool) → (lit && not holds) ≡ tru
 figure-is-size x true true p = absurd (false≢true p)
 figure-is-size x true false p = omega arith
 figure-is-size x false holds p = absurd (false≢true p)
-
--- what is added is no more than that
-pub amount-bound : (t : Bool) (x : ℕ) → cond t x 0 ≤ x
-amount-bound true x = omega arith
-amount-bound false x = omega arith
 
 -- the figure of a vertex alone, as it is added up
 pub lone-figure : (exposed lit holds : Bool) → cond exposed 1 0 + cond (not lit) evenMark 0 + cond holds openMark 0 ≡ figureOf (bit exposed) lit holds

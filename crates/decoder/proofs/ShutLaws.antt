@@ -131,6 +131,10 @@ module _ (n : ℕ) (p low x figure : List ℕ) (rest : ℕ → ℕ) (named : Fig
       go true q = last-end (eqb-true (at x v) 1 q)
       go false q = end-left (eqb-false (at x v) 1 q)
 
+-- the same of a vertex by another name
+pub at-vertex : {p low x figure : List ℕ} {u v : ℕ} → u ≡ v → Shuttable p low v x figure → Shuttable p low u x figure
+at-vertex q s = rw q s
+
 -- One edge
 
 module _ {p low ends filled : List ℕ} {k : ℕ} {x₀ figure₀ : List ℕ} (w : ListShuttable p low ends filled k x₀ figure₀) where

@@ -101,10 +101,10 @@ impl Book {
             if half.is_full() {
                 let number = e as u16;
                 let lost = Edge(number);
-                let a = first_end(ends, lost);
-                let b = second_end(ends, lost);
-                if apart(&book.parent, a, b) {
-                    book = book.fuse(a, b).book;
+                let x = first_end(ends, lost);
+                let y = second_end(ends, lost);
+                if apart(&book.parent, x, y) {
+                    book = book.fuse(x, y).book;
                 }
             }
             e += 1;

@@ -1,6 +1,7 @@
 use model::limits::VERTICES;
 ghost use mathlib.Core.Path.{_≡_};
 ghost use mathlib.Core.Bool.{cond};
+ghost use Prim.Native.Nat.{_≤_};
 ghost use Rattle.model.specs.Lent.{before};
 ghost use Rattle.model.specs.Sums.{bit};
 ghost use Rattle.decoder.specs.Figures.{figureOf, plusFigure};
@@ -12,7 +13,7 @@ pub(crate) struct Figure(pub(crate) u16);
 
 // The amount where it holds, else 0.
 fn amount(holds: bool, size: u16) -> u16
-    ensures { λ r. ⌜ r ≡ cond holds size 0 ⌝ }
+    ensures { λ r. ⌜ (r ≡ cond holds size 0) × (r ≤ size) ⌝ }
 {
     if holds {
         return size;

@@ -5,7 +5,7 @@ use native.Mathlib.Numerals.{add-one}
 use native.Mathlib.Omega.{arith}
 use borrow.Author.Needs.{needs}
 use Rattle.decoder.specs.Shutting.{ListShuttable, ShutUpTo}
-use Rattle.decoder.proofs.ShutLaws.{shut-none, shut-first, shut-second, shut-next}
+use Rattle.decoder.proofs.ShutLaws.{at-vertex, shut-none, shut-first, shut-second, shut-next}
 use Rattle.decoder.proofs.shutting.shut_listed.Statement.{statement}
 use Rattle.decoder.proofs.shutting.shut_listed.Tie as tie
 
@@ -43,7 +43,7 @@ shut-requires c κs =
     let test = first .before .before in
     let at = test .before in
     let pre = at .before .before .pre in
-    rw (first .first-end .ensures) (shut-first pre _ _ _ (at .loop .inv .1 pre) (test .loop-test .taken))
+    at-vertex (first .first-end .ensures) (shut-first pre _ _ _ (at .loop .inv .1 pre) (test .loop-test .taken))
 
 shut-requires-2 : tie.Need-shut-requires-2 Inv-loop μ-loop
 shut-requires-2 c κs =
@@ -53,7 +53,7 @@ shut-requires-2 c κs =
     let test = first .before .before in
     let at = test .before in
     let pre = at .before .before .pre in
-    rw (second .second-end .ensures)
+    at-vertex (second .second-end .ensures)
     (shut-second pre _ _ _ (at .loop .inv .1 pre) (test .loop-test .taken) _ _ (rw (first .first-end .ensures) at (one .shut .ensures)))
 
 add-i : tie.Need-add-i Inv-loop μ-loop
