@@ -2,7 +2,7 @@
 use Prim.Native.Nat.{ℕ, suc, _+_, _*_, _-_, _≤_, _<_}
 use mathlib.Core.Path.{_≡_, refl, sym, ap, ap₂, _∙_}
 use mathlib.Core.Logic.{_≢_}
-use mathlib.Core.Bool.{Bool, true, false, cond, not, _&&_, _||_, and-false, and-true, or-false, or-true}
+use mathlib.Core.Bool.{Bool, true, false, cond, not, _&&_, _||_, and-false, and-true, or-false, or-true, and-or-distrib-right}
 use mathlib.Core.List.{List}
 use native.Mathlib.Decide.{ℕ-discrete}
 use native.Mathlib.Omega.{arith}
@@ -170,11 +170,5 @@ unfolding exposed
 counted-exposed n m ends opened s x w v h =
     ap (ltb 0) (w .counts v h)
     ∙ counts-some m (looseFirst ends (full s) v) (looseSecond ends (full s) v) (λ e. touches (unmarked n m ends opened) e v && not (full s e))
-    (λ e l. both (eqb (getD ends (2 * e) 0) v) (eqb (getD ends (2 * e + 1) 0) v) (not (full s e)))
+    (λ e l. and-or-distrib-right (eqb (getD ends (2 * e) 0) v) (eqb (getD ends (2 * e + 1) 0) v) (not (full s e)))
     ∙ rw (length-replicate {A = ℕ} m 0)
-  where
-    both : (p q t : Bool) → ((p || q) && t) ≡ ((p && t) || (q && t))
-    both true true true = refl
-    both true false true = refl
-    both true q false = sym (and-false q)
-    both false q t = refl

@@ -3,7 +3,7 @@
 use Prim.Native.Nat.{ℕ, _+_, _≤_, _<_}
 use mathlib.Core.Path.{_≡_, refl, sym, ap, ap₂, _∙_}
 use mathlib.Core.Logic.{_≢_}
-use mathlib.Core.Bool.{Bool, true, false, _&&_, _||_}
+use mathlib.Core.Bool.{Bool, true, false, _&&_, _||_, and-or-distrib-left}
 use mathlib.Core.List.{List}
 use native.Mathlib.Decide.{ℕ-discrete}
 use native.Mathlib.Omega.{arith}
@@ -38,10 +38,6 @@ odd-apart a b true (left p q) = rw (p, q)
 odd-apart a b true (right p q) = rw (p, q)
 odd-apart a b true (neither p q) = rw (p, q)
 odd-apart a b false d = refl
-
-and-or : (a b c : Bool) → (c && (a || b)) ≡ ((c && a) || (c && b))
-and-or a b true = refl
-and-or a b false = refl
 
 module _ (B : Board) (l l′ : List ℕ) (j k : ℕ) (moves : (v : ℕ) → v < B .vertices → label l′ v ≡ moved j k (label l v)) (lead-j : Leads (B .vertices) l j) (lead-k : Leads (B .vertices) l k) (apart : j ≢ k) where
   abbrev n : ℕ
@@ -132,7 +128,7 @@ module _ (B : Board) (l l′ : List ℕ) (j k : ℕ) (moves : (v : ℕ) → v < 
       unfolding holdsOpen
       open-both =
           some-cong n (λ v. isOpen B v && within l′ k v) (λ v. (isOpen B v && within l j v) || (isOpen B v && within l k v))
-          (λ v h. ap (λ t. isOpen B v && t) (within-k v h) ∙ and-or (within l j v) (within l k v) (isOpen B v))
+          (λ v h. ap (λ t. isOpen B v && t) (within-k v h) ∙ and-or-distrib-left (isOpen B v) (within l j v) (within l k v))
           ∙ some-or n (λ v. isOpen B v && within l j v) (λ v. isOpen B v && within l k v)
 
       -- the clusters beside them stay as they were
