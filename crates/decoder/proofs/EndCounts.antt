@@ -6,15 +6,15 @@ use mathlib.Core.Bool.{Bool, true, false, cond, not, _&&_, _||_, and-false, and-
 use mathlib.Core.List.{List}
 use native.Mathlib.Decide.{ℕ-discrete}
 use native.Mathlib.Omega.{arith}
-use borrow.Author.Tests.{eqb-true, eq-eqb, ne-eqb}
+use borrow.Author.Tests.{eqb-true, eq-eqb, ne-eqb, ltb-true, lt-ltb}
 use lib.ListN.{length, getD, set, replicate, length-set, length-replicate, getD-replicate}
 use lib.Seq.{getD-set-same}
 use lib.Dec.{eqb, ltb}
 use Rattle.model.specs.Sums.{Set, bit, countUpTo}
-use Rattle.model.specs.Board.{vertexLimit, unmarked}
+use Rattle.model.specs.Board.{vertexLimit, unmarked, EndsWithin}
 use Rattle.model.specs.Syndrome.{touches}
 use Rattle.model.specs.Growth.{full, exposed}
-use Rattle.model.proofs.SumLaws.{count-cong, count-bound}
+use Rattle.model.proofs.SumLaws.{count-cong, count-bound, count-mono}
 use Rattle.model.proofs.CountLaws.{count-more, counts-some}
 use Rattle.model.proofs.ListLaws.{getD-set}
 use Rattle.union_find.specs.Trees.{at}
@@ -53,6 +53,26 @@ ends-cong m ends F G x same w =
           (count-cong m (looseFirst ends F v) (looseFirst ends G v) (λ e l. ap (λ t. eqb (getD ends (2 * e) 0) v && not t) (same e l)))
           (count-cong m (looseSecond ends F v) (looseSecond ends G v) (λ e l. ap (λ t. eqb (getD ends (2 * e + 1) 0) v && not t) (same e l)));
     }
+
+-- where more edges are full, no further vertex has a count
+pub counted-fewer : (m : ℕ) (ends : List ℕ) (F G : Set) (x x′ : List ℕ) → ((e : ℕ) → e < m → F e ≡ true → G e ≡ true) → Exposures m ends F x
+    → Exposures m ends G x′ → (v : ℕ) → v < vertexLimit → counted x′ v ≡ true → counted x v ≡ true
+counted-fewer m ends F G x x′ more w w′ v h some =
+    lt-ltb 0 (at x v)
+    (omega (
+      arith,
+      ltb-true 0 (at x′ v) some,
+      w .counts v h,
+      w′ .counts v h,
+      count-mono m (looseFirst ends G v) (looseFirst ends F v) (λ e l. loose (eqb (getD ends (2 * e) 0) v) (F e) (G e) (more e l)),
+      count-mono m (looseSecond ends G v) (looseSecond ends F v) (λ e l. loose (eqb (getD ends (2 * e + 1) 0) v) (F e) (G e) (more e l)),
+    ))
+  where
+    loose : (here f g : Bool) → (f ≡ true → g ≡ true) → (here && not g) ≡ true → (here && not f) ≡ true
+    loose false f g i p = p
+    loose true false g i p = refl
+    loose true true true i p = p
+    loose true true false i p = i refl
 
 -- The first pass over the edges
 
@@ -147,6 +167,9 @@ module _ (m : ℕ) (ends : List ℕ) (F G : Set) (x : List ℕ) (e : ℕ) (h : e
   pub first-left : a < vertexLimit → 1 ≤ at x a
   first-left l = omega (arith, ends-counted a l, ap bit (eq-eqb a a refl))
 
+  pub second-there : b < vertexLimit → 1 ≤ at x b
+  second-there l = omega (arith, ends-counted b l, ap bit (eq-eqb b b refl))
+
   module _ (l : a < vertexLimit) (l′ : b < vertexLimit) where
     pub second-left : 1 ≤ at (set x a (at x a - 1)) b
     second-left =
@@ -162,6 +185,15 @@ module _ (m : ℕ) (ends : List ℕ) (F G : Set) (x : List ℕ) (e : ℕ) (h : e
               ∙ ap (λ z. z - bit (eqb b v)) (one-fewer x a v (omega (arith, w .long)))
               ∙ omega (arith, ends-counted v k);
         }
+
+-- both ends of an edge that isn't full have a count
+pub ends-there : (m : ℕ) (ends : List ℕ) (F : Set) (x : List ℕ) (e : ℕ) → e < m → F e ≡ false → EndsWithin vertexLimit m ends → Exposures m ends F x
+    → (counted x (getD ends (2 * e) 0) ≡ true) × (counted x (getD ends (2 * e + 1) 0) ≡ true)
+ends-there m ends F x e h out lent w =
+    let G : Set = λ i. F i || eqb e i in (
+      lt-ltb 0 _ (first-left m ends F G x e h out (λ i. refl) w (lent .first-in-range e h)),
+      lt-ltb 0 _ (second-there m ends F G x e h out (λ i. refl) w (lent .second-in-range e h)),
+    )
 
 -- the vertices with a count are the exposed ones
 pub counted-exposed : (n m : ℕ) (ends opened s x : List ℕ) → Exposures m ends (full s) x → (v : ℕ) → v < vertexLimit

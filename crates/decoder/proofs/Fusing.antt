@@ -1,8 +1,8 @@
 -- The listed edges fused one after the other: the book is that of the parts by the edges it had and the listed edges passed.
--- What is kept of them is true still. Assumes nothing.
+-- What is kept of them is true still, and the rings are joined with them. Assumes nothing.
 use Prim.Native.Nat.{ℕ, suc, _+_, _*_, _<_}
 use mathlib.Core.Path.{_≡_, refl, sym, _∙_}
-use mathlib.Core.Bool.{_&&_, _||_, or-false, or-assoc}
+use mathlib.Core.Bool.{Bool, true, false, not, _&&_, _||_, or-false, or-assoc, false≢true}
 use mathlib.Core.List.{List}
 use native.Mathlib.Nat.{le-refl}
 use native.Mathlib.Omega.{arith}
@@ -15,7 +15,10 @@ use Rattle.theory.proofs.Components.{labels-cong}
 use Rattle.union_find.specs.Joining.{sameRoot, Mirrors}
 use Rattle.decoder.specs.declared.book.Book.{Book}
 use Rattle.decoder.specs.Gains.{listed, withListed}
-use Rattle.decoder.specs.Books.{Good, KeepsTrue, Unites, FusesListed}
+use Rattle.decoder.specs.TreeLabels.{BothRooted}
+use Rattle.decoder.specs.Rings.{Rings, BothNamed, JoinsRings}
+use Rattle.decoder.specs.Books.{Good, together, KeepsTrue, BothKept, Unites, FusesListed}
+use Rattle.decoder.proofs.RingLaws.{rings-united}
 use Rattle.theory.proofs.MarksAside.{unmarked-inside}
 use Rattle.theory.proofs.JoinedLabels.{joinedBy, Adds, added-edge}
 
@@ -66,3 +69,37 @@ module _ (b : Book) (ends filled : List ℕ) (k : ℕ) (now : Book) (w : FusesLi
             };
         true-still = keeps-on b now after (w .vertices) (w .true-still) (f .true-still);
       }
+
+-- Two vertices of the book
+
+module _ (b : Book) (u v : ℕ) (w : BothKept b u v) where
+  pub both-rooted : BothRooted (b .parent) u v
+  both-rooted =
+      record {
+        vertices = b .vertices;
+        rooted = record { size = b .size; climbs = w .good .trees .climbs };
+        first = w .first;
+        second = w .second;
+      }
+
+  pub both-named : BothNamed (b .parent) (b .low) u v
+  both-named =
+      record {
+        vertices = b .vertices;
+        nameable = record { rooted = record { size = b .size; climbs = w .good .trees .climbs }; lows = w .good .lows };
+        first = w .first;
+        second = w .second;
+      }
+
+  -- they were apart: their rings are joined, and then their clusters fused
+  pub joined-rings : (t : Bool) → t ≡ not (together b u v) → t ≡ true → (x ring ring′ : List ℕ) → JoinsRings (b .parent) (b .low) u v ring ring′
+      → (b′ : Book) → Unites b u v b′ → Rings (b .vertices) (b .parent) (b .low) x ring
+      → Rings (b′ .vertices) (b′ .parent) (b′ .low) x ring′
+  joined-rings t p q x ring ring′ j b′ f rings = rw (j .exchanges) (rings-united b x ring u v b′ (w .good) (w .first) (w .second) differ f rings)
+    where
+      go : (e : Bool) → t ≡ not e → e ≡ false
+      go true r = absurd (false≢true (sym r ∙ q))
+      go false r = refl
+
+      differ : together b u v ≡ false
+      differ = go (together b u v) p

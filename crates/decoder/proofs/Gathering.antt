@@ -24,9 +24,11 @@ use Rattle.union_find.proofs.Labels.{mirrors-alone, mirrors-united, mirrors-pas
 use Rattle.decoder.specs.declared.book.Book.{Book}
 use Rattle.decoder.specs.Exposures.{counted}
 use Rattle.decoder.specs.Figures.{Lows, nameOf, names, Leads, Figured}
-use Rattle.decoder.specs.Books.{Good, TrueBook, ownLabels, KeepsTrue, Fresh, Gatherable, Unites}
+use Rattle.decoder.specs.Rings.{Rings}
+use Rattle.decoder.specs.Books.{Good, TrueBook, ownLabels, KeepsTrue, Fresh, Gatherable, BothKept, Unites}
 use Rattle.decoder.proofs.NameLaws.{names-label, names-are}
 use Rattle.decoder.proofs.EndCounts.{counted-exposed}
+use Rattle.decoder.proofs.RingLaws.{rings-alone}
 use Rattle.decoder.proofs.Fusing.{keeps-on}
 
 -- the full edges below k are fused, from a fresh book on
@@ -38,7 +40,7 @@ pub record Gathering (n : ℕ) (ends opened s : List ℕ) (fresh : Book) (k : �
 
 -- Every vertex alone
 
-module _ (n : ℕ) (ends opened syndrome s x : List ℕ) (g : Gatherable n ends opened syndrome s x) (b : Book) (w : Fresh n opened syndrome x b) where
+module _ (n : ℕ) (ends opened syndrome s x ring : List ℕ) (g : Gatherable n ends opened syndrome s x ring) (b : Book) (w : Fresh n opened syndrome x b) where
   abbrev B : Board
   B = unmarked n (length s) ends opened
 
@@ -107,6 +109,10 @@ module _ (n : ℕ) (ends opened syndrome s x : List ℕ) (g : Gatherable n ends 
       not-below : (a : ℕ) → (Leads n l a → ⊥) → a < n → ⊥
       not-below a none h = none (record { below = h; own = own-label a h })
 
+  -- the rings of lone vertices
+  pub fresh-rings : Rings (b .vertices) (b .parent) (b .low) x ring
+  fresh-rings = rw (w .vertices) (rings-alone n (b .parent) (b .low) x ring (alone-root (w .alone)) (g .rings))
+
   -- The full edges are fused
 
   pub gather-none : Gathering n ends opened s b 0 b
@@ -119,6 +125,15 @@ module _ (n : ℕ) (ends opened syndrome s x : List ℕ) (g : Gatherable n ends 
       }
 
   module _ (k : ℕ) (h : k < length s) (now : Book) (u : Gathering n ends opened s b k now) where
+    -- an edge's ends are vertices of the book
+    pub gather-kept : (c d : ℕ) → c ≡ getD ends (2 * k) 0 → d ≡ getD ends (2 * k + 1) 0 → BothKept now c d
+    gather-kept c d is-c is-d =
+        record {
+          good = u .good;
+          first = omega (arith, u .vertices, g .lent .first-in-range k h);
+          second = omega (arith, u .vertices, g .lent .second-in-range k h);
+        }
+
     -- a full edge makes its ends' clusters one
     pub gather-full : full s k ≡ true → (c d : ℕ) → c ≡ getD ends (2 * k) 0 → d ≡ getD ends (2 * k + 1) 0 → (after : Book) → Unites now c d after → Gathering n ends opened s b (suc k) after
     unfolding labelsUpTo

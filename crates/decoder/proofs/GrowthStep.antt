@@ -1,81 +1,117 @@
--- Marked vertices grow on the book: the supports are document 01's; once the newly full edges are shut, the figures are true of these
--- supports; and the book with these edges fused is that of the supports.
--- Assumes nothing.
-use Prim.Native.Nat.{ℕ, _+_, _*_, _<_, min}
-use mathlib.Core.Path.{_≡_, refl, sym, ap, _∙_, subst}
-use mathlib.Core.Bool.{not, _&&_, and-comm}
+-- Clusters grow on the book: the supports are document 01's; once the newly full edges are shut, the figures are true of these supports; and
+-- the book with these edges fused is that of the supports. The rings are those of its clusters. Assumes nothing.
+use Prim.Native.Nat.{ℕ, _+_, _*_, _≤_, _<_, min}
+use mathlib.Core.Path.{_≡_, refl, sym, _∙_, subst}
+use mathlib.Core.Bool.{true, not, _&&_}
 use mathlib.Core.List.{List}
+use native.Mathlib.Decide.{ℕ-discrete}
 use native.Mathlib.Omega.{arith}
-use lib.ListN.{length, getD, length-replicate}
-use lib.Dec.{eqb}
-use Rattle.model.specs.Sums.{Set, bit, countUpTo, ones, values}
+use borrow.Author.Tests.{ltb-true}
+use lib.ListN.{length, getD, replicate, length-replicate}
+use Rattle.model.specs.Sums.{Set, bit}
 use Rattle.model.specs.Board.{Board, edgeLimit, firstEnd, secondEnd, unmarked, plain}
 use Rattle.model.specs.Growth.{full, clusters, swell}
-use Rattle.model.proofs.Bits.{byte-bit}
-use Rattle.model.proofs.EndLaws.{within-limit}
-use Rattle.model.proofs.SumLaws.{count-cong}
-use Rattle.model.proofs.ListLaws.{values-cong, getD-values}
+use Rattle.model.proofs.SumLaws.{count-bound}
+use Rattle.model.proofs.ListLaws.{values-are}
 use Rattle.theory.proofs.Components.{labels-cong}
-use Rattle.decoder.specs.declared.book.Book.{Book}
 use Rattle.theory.proofs.MarksAside.{unmarked-inside}
+use Rattle.union_find.specs.Trees.{at}
 use Rattle.union_find.specs.Joining.{Mirrors}
-use Rattle.decoder.specs.Gains.{lifted, Raisable, fills, withListed, Raises}
-use Rattle.decoder.specs.Figures.{Lows, names, Figured}
-use Rattle.decoder.specs.Exposures.{Exposures}
+use Rattle.decoder.specs.declared.book.Book.{Book}
+use Rattle.decoder.specs.declared.growing.Growing.{Growing}
+use Rattle.decoder.specs.Gains.{withListed, Raised}
+use Rattle.decoder.specs.Raising.{growers, endsOf, Raisable, Raises}
+use Rattle.decoder.specs.Rings.{Rings}
+use Rattle.decoder.specs.Figures.{Lows, nameOf, names, evenMark, oddFigure, Figured}
+use Rattle.decoder.specs.Exposures.{Exposures, counted}
 use Rattle.decoder.specs.Shutting.{NewlyListed, ListShuttable, ListShut}
 use Rattle.decoder.specs.Books.{Good, ownLabels, TrueBook, BothKept, FusesListed, Growable, Grows}
-use Rattle.decoder.proofs.NameLaws.{names-are}
-use Rattle.decoder.proofs.EndCounts.{ends-cong}
+use Rattle.decoder.proofs.NameLaws.{names-label, names-are}
+use Rattle.decoder.proofs.EndCounts.{ends-cong, counted-fewer}
+use Rattle.decoder.proofs.RingLaws.{rings-fewer}
 use Rattle.decoder.proofs.Figuring.{beside, figured-sized, sized-figured}
 use Rattle.decoder.proofs.Fusing.{fuse-none}
 
-module _ (b : Book) (ends inside s x : List ℕ) (g : Growable b ends inside s x) where
+module _ (b : Book) (ends latest earlier : List ℕ) (r : Growing) (s x ring : List ℕ) (g : Growable b ends latest earlier r s x ring) where
   abbrev B : Board
   B = plain (b .vertices) (length s) ends
 
-  pub raisable : (filled : List ℕ) → length filled ≡ edgeLimit → Raisable ends inside s filled
-  raisable filled room = record { lent = within-limit (g .lent); marks = g .marks; supports = g .supports; room = room }
+  -- what grows
+  abbrev R : Set
+  R = growers (nameOf (b .parent) (b .low)) (b .figure) (r .from) (r .to)
 
-  module _ (filled s′ : List ℕ) (count : ℕ) (r : Raises ends inside s s′ filled count) where
-    -- a mark is 1 exactly where its vertex grows
-    mark-is : (v : ℕ) → v < b .vertices → getD inside v 0 ≡ bit (ones inside v)
-    mark-is v h = byte-bit (getD inside v 0) (g .marks .small v (omega (arith, g .lent .vertex-limit)))
+  -- the clusters of the supports are the book's own
+  own : (opened : List ℕ) (S : Set) → TrueBook (unmarked (b .vertices) (length s) ends opened) S s b
+      → clusters (unmarked (b .vertices) (length s) ends opened) s ≡ ownLabels b
+  unfolding clusters
+  own opened S w =
+      names-are (unmarked (b .vertices) (length s) ends opened) (full s) (unmarked-inside (g .lent)) (w .mirrors) (w .good .lows)
+
+  own-figured : (opened : List ℕ) (S : Set) → TrueBook (unmarked (b .vertices) (length s) ends opened) S s b
+      → Figured (unmarked (b .vertices) (length s) ends opened) S s (ownLabels b) (b .figure)
+  own-figured opened S w =
+      subst (λ l. Figured (unmarked (b .vertices) (length s) ends opened) S s l (b .figure)) (own opened S w) (w .figures)
+
+  -- an odd figure stands by no number but a name
+  pub odd-leads : (a : ℕ) → a < b .vertices → oddFigure (b .figure) a ≡ true → nameOf (b .parent) (b .low) a ≡ a
+  odd-leads a h odd = elim (ℕ-discrete (nameOf (b .parent) (b .low) a) a) [
+    | yes q ↦ q
+    | no q ↦
+        omega (
+          arith,
+          ltb-true (at (b .figure) a) evenMark odd,
+          own-figured (g .opened) (g .lit) (g .book) .kept .others a (omega (arith, g .lent .vertex-limit))
+              (λ lead. q (sym (names-label (b .vertices) (b .parent) (b .low) a h) ∙ lead .own)),
+        )
+  ]
+
+  -- no edge is listed yet
+  abbrev pub raisable : Raisable latest earlier (b .figure) r x ring s (replicate edgeLimit 0)
+  raisable =
+      record {
+        vertices = b .vertices;
+        parent = b .parent;
+        low = b .low;
+        ends = ends;
+        lent = g .lent;
+        lists = g .lists;
+        supports = g .supports;
+        room = length-replicate {A = ℕ} edgeLimit 0;
+        counts = g .counts;
+        lows = g .book .good .lows;
+        rings = g .rings;
+        figures-long = g .book .good .figures-long;
+        leads = odd-leads;
+        ordered = g .ordered;
+        inside = g .inside;
+      }
+
+  module _ (count : ℕ) (ring₁ s′ filled : List ℕ)
+      (t : Raises latest earlier (b .figure) r x ring s (replicate edgeLimit 0) count ring₁ s′ filled) where
+    pub raised : Raised s (endsOf ends R) s′ filled count
+    raised = t .each raisable .raised
 
     -- the supports are document 01's
-    swelled : s′ ≡ swell B s (ones inside)
+    swelled : s′ ≡ swell B s R
     unfolding swell
     swelled =
-        r .supports
-        ∙ values-cong (length s) (lifted ends inside s)
-        (λ e. min 2 (getD s e 0 + bit (ones inside (firstEnd B e)) + bit (ones inside (secondEnd B e)))) each
-        ∙ ap (λ k. values k (λ e. min 2 (getD s e 0 + bit (ones inside (firstEnd B e)) + bit (ones inside (secondEnd B e)))))
-        (sym (length-replicate {A = ℕ} (length s) 0))
+        values-are (length (B .marks)) (λ e. min 2 (getD s e 0 + bit (R (firstEnd B e)) + bit (R (secondEnd B e)))) s′ (raised .long ∙ sym many)
+        (λ e h. raised .each e (omega (arith, many)) ∙ omega arith)
       where
-        each : (e : ℕ) → e < length s
-            → lifted ends inside s e ≡ min 2 (getD s e 0 + bit (ones inside (firstEnd B e)) + bit (ones inside (secondEnd B e)))
-        each e h =
-            omega (arith, mark-is (firstEnd B e) (g .lent .first-in-range e h), mark-is (secondEnd B e) (g .lent .second-in-range e h))
+        many : length (B .marks) ≡ length s
+        many = length-replicate {A = ℕ} (length s) 0
 
-    -- the edges that became full are counted
-    filled-is : count ≡ countUpTo (length s) (λ e. full s′ e && not (full s e))
-    filled-is =
-        r .count-is
-        ∙ count-cong (length s) (fills ends inside s) (λ e. full s′ e && not (full s e))
-        (λ e h. and-comm (not (full s e)) (eqb (lifted ends inside s e) 2)
-        ∙ ap (λ x. eqb x 2 && not (full s e)) (sym (ap (λ l. getD l e 0) (r .supports) ∙ getD-values (length s) (lifted ends inside s) e 0 h)))
+    pub few-listed : count ≤ edgeLimit
+    few-listed = omega (arith, raised .count-is, count-bound (length s) (λ e. full s′ e && not (full s e)), g .lent .edge-limit)
 
     -- Shutting
 
     newly : NewlyListed (length s) (full s) filled count
-    newly = record { few = omega (arith, r .few, g .lent .edge-limit); edges = r .edges; outside = r .outside; rising = r .rising }
+    newly = record { few = few-listed; edges = raised .edges; outside = raised .outside; distinct = raised .distinct }
 
     module _ (opened : List ℕ) (S : Set) (w : TrueBook (unmarked (b .vertices) (length s) ends opened) S s b) where
       abbrev C : Board
       C = unmarked (b .vertices) (length s) ends opened
-
-      own : clusters C s ≡ ownLabels b
-      unfolding clusters
-      own = names-are C (full s) (unmarked-inside (g .lent)) (w .mirrors) (w .good .lows)
 
       abbrev listable : ListShuttable (b .parent) (b .low) ends filled count x (b .figure)
       listable =
@@ -94,13 +130,13 @@ module _ (b : Book) (ends inside s x : List ℕ) (g : Growable b ends inside s x
             rest = beside C S (ownLabels b);
             figures =
                 figured-sized (b .vertices) (length s) ends opened (g .lent .vertex-limit) S s x (ownLabels b) (b .figure) (g .counts)
-                (subst (λ l. Figured C S s l (b .figure)) own (w .figures));
+                (own-figured opened S w);
           }
 
       module _ (x′ figure : List ℕ) (shut : ListShut (b .parent) (b .low) ends filled count x (b .figure) x′ figure) where
         counts-after : Exposures (length s) ends (full s′) x′
         counts-after =
-            ends-cong (length s) ends (withListed (full s) count filled) (full s′) x′ (λ e h. sym (r .becomes-full e h)) (shut .each listable .counts)
+            ends-cong (length s) ends (withListed (full s) count filled) (full s′) x′ (λ e h. sym (raised .becomes-full e h)) (shut .each listable .counts)
 
         -- the figures of the clusters that are not fused yet are true of the new supports
         shut-figured : Figured C S s′ (ownLabels b) figure
@@ -123,25 +159,40 @@ module _ (b : Book) (ends inside s x : List ℕ) (g : Growable b ends inside s x
       pub shut-begins : FusesListed shutBook ends filled 0 shutBook
       shut-begins = fuse-none shutBook ends filled (shut-good (g .opened) (g .lit) (g .book) x′ figure shut)
 
+      -- no further vertex has a count after shutting, so the rings are as good
+      pub shut-rings : Rings (b .vertices) (b .parent) (b .low) x′ ring₁
+      shut-rings = rings-fewer fewer (t .each raisable .rings)
+        where
+          still : (e : ℕ) → e < length s → full s e ≡ true → full s′ e ≡ true
+          still e h p = raised .becomes-full e h ∙ rw p
+
+          fewer : (v : ℕ) → v < b .vertices → counted x′ v ≡ true → counted x v ≡ true
+          fewer v h =
+              counted-fewer (length s) ends (full s) (full s′) x x′ still (g .counts) (counts-after (g .opened) (g .lit) (g .book) x′ figure shut) v
+              (omega (arith, g .lent .vertex-limit))
+
       -- the next listed edge may be fused
       pub next-kept : (k : ℕ) (now : Book) → FusesListed shutBook ends filled k now → k < count → (u v : ℕ) → u ≡ getD ends (2 * getD filled k 0) 0
           → v ≡ getD ends (2 * getD filled k 0 + 1) 0 → BothKept now u v
       next-kept k now f h u v p q =
           record {
             good = f .good;
-            first = omega (arith, f .vertices, g .lent .first-in-range (getD filled k 0) (r .edges k h));
-            second = omega (arith, f .vertices, g .lent .second-in-range (getD filled k 0) (r .edges k h));
+            first = omega (arith, f .vertices, g .lent .first-in-range (getD filled k 0) (raised .edges k h));
+            second = omega (arith, f .vertices, g .lent .second-in-range (getD filled k 0) (raised .edges k h));
           }
 
       -- the full edges are those before and the listed ones
-      pub grows : (now : Book) → FusesListed shutBook ends filled count now → Grows b ends inside s (record { book = now; filled = count }) s′ x′
+      pub grows : (now : Book) (ring′ : List ℕ) → FusesListed shutBook ends filled count now
+          → Rings (now .vertices) (now .parent) (now .low) x′ ring′
+          → Grows b ends r s (record { book = now; filled = count }) s′ x′ ring′
       unfolding clusters
-      grows now f =
+      grows now ring′ f rings =
           record {
             supports = swelled;
             book = λ opened S w. book-after opened S w;
             counts = counts-after (g .opened) (g .lit) (g .book) x′ figure shut;
-            filled = filled-is;
+            rings = rings;
+            filled = raised .count-is;
           }
         where
           book-after : (opened : List ℕ) (S : Set) → TrueBook (unmarked (b .vertices) (length s) ends opened) S s b
@@ -151,8 +202,8 @@ module _ (b : Book) (ends inside s x : List ℕ) (g : Growable b ends inside s x
               let lows = subst (λ i. Lows i (now .parent) (now .low)) (f .vertices) (f .good .lows) in
               let all : Mirrors (b .vertices) (now .parent) (clusters A s′) =
               rw (labels-cong A (full s′) (withListed (full s) count filled)
-              (λ e h. r .becomes-full e (omega (arith, length-replicate {A = ℕ} (length s) 0))))
-              (f .each (length s) opened (full s) (g .lent) (r .edges) (w .mirrors)) in
+              (λ e h. raised .becomes-full e (omega (arith, length-replicate {A = ℕ} (length s) 0))))
+              (f .each (length s) opened (full s) (g .lent) (raised .edges) (w .mirrors)) in
               record {
                 vertices = f .vertices;
                 good = f .good;

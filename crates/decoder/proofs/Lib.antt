@@ -1,6 +1,7 @@
 pub mod Tallying
-pub mod Raising
-pub mod Marking
+pub mod EndListLaws
+pub mod Lifting
+pub mod EndRaising
 pub mod EndMarking
 pub mod Policies
 pub mod FigureLaws
@@ -9,8 +10,12 @@ pub mod MergedFigures
 pub mod HungNames
 pub mod Uniting
 pub mod BookLaws
+pub mod PassLaws
+pub mod RingLaws
+pub mod Pruning
 pub mod Fusing
 pub mod EndCounts
+pub mod RingRaising
 pub mod ShutLaws
 pub mod LoneLaws
 pub mod Gathering
@@ -18,7 +23,6 @@ pub mod Figuring
 pub mod GrowthStep
 pub mod Choosing
 pub mod ChoiceLaws
-pub mod OddMarking
 pub mod Following
 pub mod RunLaws
 pub mod Keying

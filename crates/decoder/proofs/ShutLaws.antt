@@ -182,7 +182,7 @@ module _ {p low ends filled : List ℕ} {k : ℕ} {x₀ figure₀ : List ℕ} (w
     not-yet : F e ≡ false
     not-yet =
         rw (w .fresh .outside i h)
-        (none-some i (λ j. eqb (getD filled j 0) e) (λ j l. ne-eqb (getD filled j 0) e (λ q. omega (arith, w .fresh .rising j i l h))))
+        (none-some i (λ j. eqb (getD filled j 0) e) (λ j l. ne-eqb (getD filled j 0) e (w .fresh .distinct j i l h)))
 
     adds : (j : ℕ) → G j ≡ (F j || eqb e j)
     unfolding someUpTo

@@ -1,11 +1,11 @@
 -- What holds of the cluster book, and what its methods do to it. Internal: no part of what a reader of a product call must believe.
 -- Assumes nothing.
-use Prim.Native.Nat.{ℕ, _<_}
+use Prim.Native.Nat.{ℕ, _≤_, _<_}
 use mathlib.Core.Path.{_≡_}
 use mathlib.Core.Bool.{Bool, not, _&&_, _||_}
 use mathlib.Core.List.{List}
 use lib.ListN.{length, getD}
-use Rattle.model.specs.Sums.{Set, countUpTo, ones}
+use Rattle.model.specs.Sums.{Set, countUpTo}
 use Rattle.model.specs.Board.{Board, vertexLimit, unmarked, plain, EndsWithin}
 use Rattle.model.specs.Components.{labels}
 use Rattle.model.specs.Growth.{full, clusters, swell}
@@ -13,10 +13,14 @@ use Rattle.model.specs.declared.numbers.Vertex.{Vertex}
 use Rattle.union_find.specs.declared.Joined.the-variants.{Hung}
 use Rattle.union_find.specs.Trees.{at, rootOf, Trees, Alone, Compressed}
 use Rattle.union_find.specs.Joining.{joined, sameRoot, Mirrors}
-use Rattle.decoder.specs.Gains.{Marked, Supports, withListed}
-use Rattle.decoder.specs.Figures.{Lows, names, Figured}
+use Rattle.decoder.specs.Gains.{Supports, withListed}
+use Rattle.decoder.specs.Figures.{Lows, nameOf, names, Figured}
 use Rattle.decoder.specs.Exposures.{Exposures}
 use Rattle.decoder.specs.LoneFigures.{LoneFigures}
+use Rattle.decoder.specs.EndLists.{EndLists}
+use Rattle.decoder.specs.Rings.{LoneRings, Rings}
+use Rattle.decoder.specs.Raising.{growers}
+use Rattle.decoder.specs.declared.growing.Growing.{Growing}
 use Rattle.decoder.specs.declared.book.Book.{Book}
 use Rattle.decoder.specs.declared.book.Found.{Found}
 use Rattle.decoder.specs.declared.book.Fused.{Fused}
@@ -57,12 +61,18 @@ pub record Fresh (n : ℕ) (opened syndrome x : List ℕ) (b : Book) : Type 0 wh
   pub lows : b .low ≡ b .parent
   pub figures : LoneFigures n opened syndrome x (b .figure)
 
--- the counts are those of the supports
-pub record Gatherable (n : ℕ) (ends opened syndrome s x : List ℕ) : Type 0 where
+-- the counts are those of the supports, and each vertex has a ring of its own
+pub record Gatherable (n : ℕ) (ends opened syndrome s x ring : List ℕ) : Type 0 where
   pub lent : EndsWithin n (length s) ends
   pub open-bytes : length opened ≡ n
   pub lit : length syndrome ≡ n
   pub counts : Exposures (length s) ends (full s) x
+  pub rings : LoneRings n ring
+
+-- the book of the supports, and the rings of its clusters
+pub record Gathers (B : Board) (S : Set) (s x : List ℕ) (b : Book) (ring : List ℕ) : Type 0 where
+  pub book : TrueBook B S s b
+  pub rings : Rings (b .vertices) (b .parent) (b .low) x ring
 
 -- v is one of the book's vertices
 pub record Kept (b : Book) (v : ℕ) : Type 0 where
@@ -110,22 +120,27 @@ pub record FusesListed (b : Book) (ends filled : List ℕ) (k : ℕ) (b′ : Boo
       Mirrors (b .vertices) (b′ .parent) (labels (unmarked (b .vertices) m ends opened) (withListed F k filled))
   pub true-still : KeepsTrue b b′
 
--- the book is that of the supports, the counts are theirs, and each vertex has a mark
-pub record Growable (b : Book) (ends inside s x : List ℕ) : Type 0 where
+-- the book is that of the supports, with the rings of its clusters; the counts are theirs; what grows is named
+pub record Growable (b : Book) (ends latest earlier : List ℕ) (r : Growing) (s x ring : List ℕ) : Type 0 where
   pub lent : EndsWithin (b .vertices) (length s) ends
+  pub lists : EndLists ends latest earlier
+  pub ordered : r .from ≤ r .to
+  pub inside : r .to ≤ b .vertices
   pub supports : Supports s
-  pub marks : Marked inside
   pub counts : Exposures (length s) ends (full s) x
+  pub rings : Rings (b .vertices) (b .parent) (b .low) x ring
   pub opened : List ℕ
   pub lit : Set
   pub book : TrueBook (unmarked (b .vertices) (length s) ends opened) lit s b
 
--- document 01's step 4: the supports after the marked vertices have grown, the book of these supports, whichever vertices are open or lit,
--- and how many edges became full
-pub record Grows (b : Book) (ends inside s : List ℕ) (r : Grown) (s′ x′ : List ℕ) : Type 0 where
-  pub supports : s′ ≡ swell (plain (b .vertices) (length s) ends) s (ones inside)
+-- document 01's step 4: the supports after the clusters have grown, the book of these supports, whichever vertices are open or lit, with the
+-- rings of its clusters, and how many edges became full
+pub record Grows (b : Book) (ends : List ℕ) (r : Growing) (s : List ℕ) (g : Grown) (s′ x′ ring′ : List ℕ) : Type 0 where
+  pub supports :
+      s′ ≡ swell (plain (b .vertices) (length s) ends) s (growers (nameOf (b .parent) (b .low)) (b .figure) (r .from) (r .to))
   pub book :
       (opened : List ℕ) (S : Set) → TrueBook (unmarked (b .vertices) (length s) ends opened) S s b →
-      TrueBook (unmarked (b .vertices) (length s) ends opened) S s′ (r .book)
+      TrueBook (unmarked (b .vertices) (length s) ends opened) S s′ (g .book)
   pub counts : Exposures (length s) ends (full s′) x′
-  pub filled : r .filled ≡ countUpTo (length s) (λ e. full s′ e && not (full s e))
+  pub rings : Rings (g .book .vertices) (g .book .parent) (g .book .low) x′ ring′
+  pub filled : g .filled ≡ countUpTo (length s) (λ e. full s′ e && not (full s e))

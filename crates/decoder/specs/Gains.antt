@@ -1,58 +1,20 @@
--- Supports: how they start, and what one growth adds to them. Internal: no part of what a reader of a product call must believe.
+-- Supports: how they start, and what is added to them in a growth. Internal: no part of what a reader of a product call must believe.
 -- Assumes nothing.
 use Prim.Native.Nat.{ℕ, _+_, _*_, _≤_, _<_, min}
 use mathlib.Core.Path.{_≡_}
-use mathlib.Core.Bool.{Bool, false, cond, not, _&&_, _||_}
+use mathlib.Core.Logic.{_≢_}
+use mathlib.Core.Bool.{false, cond, not, _&&_, _||_}
 use mathlib.Core.List.{List}
 use lib.ListN.{length, getD, set}
 use lib.Dec.{eqb}
-use Rattle.model.specs.Sums.{Set, countUpTo, ones, someUpTo, values}
+use Rattle.model.specs.Sums.{Set, bit, countUpTo, ones, someUpTo, values}
 use Rattle.model.specs.Board.{vertexLimit, edgeLimit, EndsWithin}
 use Rattle.model.specs.Growth.{full}
-
--- the vertices that grow are marked: 1 for each of them, 0 for each other
-pub record Marked (inside : List ℕ) : Type 0 where
-  pub small : (v : ℕ) → v < vertexLimit → getD inside v 0 ≤ 1
-
--- how many marked ends edge e has
-abbrev pub gains : List ℕ → List ℕ → ℕ → ℕ
-gains ends inside e = getD inside (getD ends (2 * e) 0) 0 + getD inside (getD ends (2 * e + 1) 0) 0
-
--- edge e's support after the marked vertices have grown
-abbrev pub lifted : List ℕ → List ℕ → List ℕ → ℕ → ℕ
-lifted ends inside s e = min 2 (getD s e 0 + gains ends inside e)
-
--- e is an edge whose ends have a mark
-pub record Gainable (ends inside : List ℕ) (e : ℕ) : Type 0 where
-  pub edges : ℕ
-  pub lent : EndsWithin vertexLimit edges ends
-  pub edge : e < edges
-  pub marks : Marked inside
-
--- and it has a support
-pub record Liftable (ends inside s : List ℕ) (e : ℕ) : Type 0 where
-  pub gainable : Gainable ends inside e
-  pub edge : e < length s
-  pub small : getD s e 0 ≤ 2
-
--- edge e becomes full
-abbrev pub fills : List ℕ → List ℕ → List ℕ → Set
-fills ends inside s e = not (full s e) && eqb (lifted ends inside s e) 2
-
--- one edge lifted, and whether it becomes full
-pub record Lifts (ends inside s : List ℕ) (e : ℕ) (r : Bool) (s′ : List ℕ) : Type 0 where
-  pub support : s′ ≡ set s e (lifted ends inside s e)
-  pub becomes-full : r ≡ fills ends inside s e
+use Rattle.decoder.specs.EndLists.{EndLists}
 
 -- every support is at most 2
 pub record Supports (s : List ℕ) : Type 0 where
   pub small : (e : ℕ) → e < length s → getD s e 0 ≤ 2
-
-pub record Raisable (ends inside s filled : List ℕ) : Type 0 where
-  pub lent : EndsWithin vertexLimit (length s) ends
-  pub marks : Marked inside
-  pub supports : Supports s
-  pub room : length filled ≡ edgeLimit
 
 -- e is one of the first k entries of a list of edges
 abbrev pub listed : ℕ → List ℕ → Set
@@ -62,15 +24,55 @@ listed k l e = someUpTo k (λ i. eqb (getD l i 0) e)
 abbrev pub withListed : Set → ℕ → List ℕ → Set
 withListed F k filled e = F e || listed k filled e
 
--- what one growth leaves: the supports, and a rising list of the edges that became full
-pub record Raises (ends inside s s′ filled : List ℕ) (count : ℕ) : Type 0 where
-  pub supports : s′ ≡ values (length s) (lifted ends inside s)
-  pub few : count ≤ length s
+-- edge e's support after so many half-edges more, up to that of a full edge
+abbrev pub lifted : List ℕ → (ℕ → ℕ) → ℕ → ℕ
+lifted s gains e = min 2 (getD s e 0 + gains e)
+
+-- from the supports s on, each edge has gained so many half-edges, and the edges that became full are listed, each once
+pub record Raised (s : List ℕ) (gains : ℕ → ℕ) (s′ filled : List ℕ) (count : ℕ) : Type 0 where
+  pub long : length s′ ≡ length s
+  pub room : length filled ≡ edgeLimit
+  pub each : (e : ℕ) → e < length s → getD s′ e 0 ≡ lifted s gains e
+  pub count-is : count ≡ countUpTo (length s) (λ e. full s′ e && not (full s e))
   pub edges : (i : ℕ) → i < count → getD filled i 0 < length s
   pub outside : (i : ℕ) → i < count → full s (getD filled i 0) ≡ false
-  pub rising : (i j : ℕ) → i < j → j < count → getD filled i 0 < getD filled j 0
+  pub distinct : (i j : ℕ) → i < j → j < count → getD filled i 0 ≢ getD filled j 0
   pub becomes-full : (e : ℕ) → e < length s → full s′ e ≡ withListed (full s) count filled e
-  pub count-is : count ≡ countUpTo (length s) (fills ends inside s)
+
+-- One half-edge more
+
+-- e has a support, and there is room to list it, unless it is full already
+pub record Liftable (s : List ℕ) (e count : ℕ) : Type 0 where
+  pub edge : e < length s
+  pub small : getD s e 0 ≤ 2
+  pub room : full s e ≡ false → count < edgeLimit
+
+-- e gains one, unless it is full; if it becomes full, it is listed
+pub record Lifts (s filled : List ℕ) (e count : ℕ) (r : ℕ) (s′ filled′ : List ℕ) : Type 0 where
+  pub support : s′ ≡ set s e (min 2 (getD s e 0 + 1))
+  pub lists : filled′ ≡ cond (eqb (getD s e 0) 1) (set filled count e) filled
+  pub counts : r ≡ count + bit (eqb (getD s e 0) 1)
+
+-- The ends at a vertex
+
+-- how many ends of e are v
+abbrev pub endsAt : List ℕ → ℕ → ℕ → ℕ
+endsAt ends v e = bit (eqb (getD ends (2 * e) 0) v) + bit (eqb (getD ends (2 * e + 1) 0) v)
+
+-- v is a vertex with a list of its ends, and there were growths from the supports `start` on
+pub record RaisableAt (latest earlier : List ℕ) (v : ℕ) (s filled : List ℕ) (count : ℕ) : Type 0 where
+  pub ends : List ℕ
+  pub lent : EndsWithin vertexLimit (length s) ends
+  pub lists : EndLists ends latest earlier
+  pub vertex : v < vertexLimit
+  pub start : List ℕ
+  pub gains : ℕ → ℕ
+  pub supports : Supports start
+  pub raised : Raised start gains s filled count
+
+-- each edge gains as many half-edges as it has ends at v
+pub record RaisesAt (latest earlier : List ℕ) (v : ℕ) (s filled : List ℕ) (count r : ℕ) (s′ filled′ : List ℕ) : Type 0 where
+  pub each : (w : RaisableAt latest earlier v s filled count) → Raised (w .start) (λ e. w .gains e + endsAt (w .ends) v e) s′ filled′ r
 
 -- lost edges start full, others with nothing
 abbrev pub startOf : List ℕ → List ℕ

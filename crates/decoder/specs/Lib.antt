@@ -5,10 +5,12 @@ pub mod LoneFigures
 pub mod Merging
 pub mod TreeLabels
 pub mod Choices
-pub mod Growing
 pub mod OddEnds
-pub mod OddClusters
+pub mod EndLists
 pub mod Gains
+pub mod Rings
+pub mod Raising
+pub mod Growing
 pub mod Shutting
 pub mod Books
 pub mod Runs

@@ -3,6 +3,7 @@
 -- Assumes nothing.
 use Prim.Native.Nat.{ℕ, _+_, _-_, _≤_, _<_}
 use mathlib.Core.Path.{_≡_}
+use mathlib.Core.Logic.{_≢_}
 use mathlib.Core.Bool.{false, cond, _&&_}
 use mathlib.Core.List.{List}
 use lib.ListN.{length, getD, set}
@@ -38,7 +39,7 @@ pub record NewlyListed (m : ℕ) (F : Set) (filled : List ℕ) (k : ℕ) : Type 
   pub few : k ≤ edgeLimit
   pub edges : (i : ℕ) → i < k → getD filled i 0 < m
   pub outside : (i : ℕ) → i < k → F (getD filled i 0) ≡ false
-  pub rising : (i j : ℕ) → i < j → j < k → getD filled i 0 < getD filled j 0
+  pub distinct : (i j : ℕ) → i < j → j < k → getD filled i 0 ≢ getD filled j 0
 
 -- what is full, whatever it is: the counts are those of its edges, and each figure is the number of the tree's vertices that have a count,
 -- with something else

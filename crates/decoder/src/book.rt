@@ -1,10 +1,13 @@
 use crate::figure::lone_figures;
+use crate::growing::Growing;
 use crate::labels::apart;
 use crate::merging::merge;
+use crate::raising::raise;
+use crate::rings::join_rings;
 use crate::shutting::shut_listed;
-use crate::support::raise;
 use model::ends::first_end;
 use model::ends::second_end;
+use model::limits::ENDS;
 use model::numbers::Edge;
 use model::numbers::HalfEdges;
 use model::numbers::Vertex;
@@ -18,7 +21,7 @@ ghost use Rattle.model.specs.Lent.{before, after};
 ghost use Rattle.model.specs.Sums.{ones};
 ghost use Rattle.model.specs.Board.{unmarked};
 ghost use Rattle.decoder.specs.LoneFigures.{Lonely};
-ghost use Rattle.decoder.specs.Books.{Fresh, Gatherable, TrueBook, Kept, Finds, BothKept, Fuses, Growable, Grows};
+ghost use Rattle.decoder.specs.Books.{Fresh, Gatherable, Gathers, Kept, Finds, BothKept, Fuses, Growable, Grows};
 
 // The cluster book: a union-find over the first `vertices` vertices. A vertex's cluster is its tree, and with each cluster its boundary size
 // is kept.
@@ -87,11 +90,12 @@ impl Book {
         syndrome: &[u8],
         support: &[u8],
         exposure: &[u16; Self::VERTICES],
+        ring: &mut [u16; Self::VERTICES],
     ) -> Self
-        requires { ⌜ Gatherable vertices (now ends) (now opened) (now syndrome) (now support) (now exposure) ⌝ }
+        requires { ⌜ Gatherable vertices (now ends) (now opened) (now syndrome) (now support) (now exposure) (now ring) ⌝ }
         ensures { λ r.
-            ⌜ TrueBook (unmarked vertices (length (before support)) (before ends) (before opened)) (ones (before syndrome))
-            (before support) r ⌝ }
+            ⌜ Gathers (unmarked vertices (length (before support)) (before ends) (before opened)) (ones (before syndrome))
+            (before support) (before exposure) r (after ring) ⌝ }
     {
         let mut book = Self::fresh(vertices, opened, syndrome, exposure);
         let mut e = 0;
@@ -104,6 +108,7 @@ impl Book {
                 let x = first_end(ends, lost);
                 let y = second_end(ends, lost);
                 if apart(&book.parent, x, y) {
+                    join_rings(&book.parent, &book.low, ring, x, y);
                     book = book.fuse(x, y).book;
                 }
             }
@@ -160,21 +165,34 @@ impl Book {
         Fused { book, joined }
     }
 
-    // The marked vertices grow: each edge that isn't full gains as many half-edges as it has marked ends, up to 2. The ends of newly full edges
-    // are taken off the counts and the figures, and then the clusters that these edges join fuse. The answer is how many edges became full.
+    // The clusters grow: each edge that isn't full gains as many half-edges as it has ends in them, up to 2. The ends of newly full edges are
+    // taken off the counts and the figures, and then the clusters that these edges join fuse, and their rings with them. The answer is how many
+    // edges became full.
     pub(crate) fn grow(
         self,
         ends: &[u16],
-        inside: &[u8; Self::VERTICES],
+        latest: &[u16; Self::VERTICES],
+        earlier: &[u16; ENDS],
+        growing: Growing,
         support: &mut [u8],
         exposure: &mut [u16; Self::VERTICES],
+        ring: &mut [u16; Self::VERTICES],
     ) -> Grown
-        requires { ⌜ Growable self (now ends) (now inside) (now support) (now exposure) ⌝ }
-        ensures { λ r. ⌜ Grows self (before ends) (before inside) (before support) r (after support) (after exposure) ⌝ }
+        requires { ⌜ Growable self (now ends) (now latest) (now earlier) growing (now support) (now exposure) (now ring) ⌝ }
+        ensures { λ r. ⌜ Grows self (before ends) growing (before support) r (after support) (after exposure) (after ring) ⌝ }
     {
         let mut book = self;
         let mut filled = [0u16; Self::EDGES];
-        let count = raise(ends, inside, support, &mut filled);
+        let count = raise(
+            latest,
+            earlier,
+            &book.figure,
+            growing,
+            exposure,
+            ring,
+            support,
+            &mut filled,
+        );
         let mut figure = book.figure;
         shut_listed(
             &book.parent,
@@ -193,6 +211,7 @@ impl Book {
             let a = first_end(ends, edge);
             let b = second_end(ends, edge);
             if apart(&book.parent, a, b) {
+                join_rings(&book.parent, &book.low, ring, a, b);
                 book = book.fuse(a, b).book;
             }
             i += 1;

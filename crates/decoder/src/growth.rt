@@ -1,8 +1,12 @@
 use crate::book::Book;
+use crate::end_lists::list_ends;
 use crate::exposure::exposure_of;
 use crate::growing::Growth;
 use crate::growing::next;
+use crate::rings::lone_rings;
 use crate::support::lose;
+use model::limits::ENDS;
+use model::limits::VERTICES;
 ghost use Rattle.model.specs.Lent.{before, after};
 ghost use Rattle.decoder.specs.Growing.{policyOf};
 ghost use Rattle.decoder.specs.Runs.{bare, Runnable, Runs};
@@ -13,8 +17,8 @@ pub(crate) struct Ran {
     pub(crate) count: usize,
 }
 
-// The supports and the book before any growth; then growths or rounds until no cluster is odd. Which vertices grow next is told by what the
-// book keeps.
+// The supports and the book before any growth; then growths or rounds until no cluster is odd. Which clusters grow next is told by what the
+// book keeps, and the lists of ends and the rings lead to the edges that they touch.
 pub(crate) fn run(
     growth: Growth,
     vertices: usize,
@@ -30,14 +34,34 @@ pub(crate) fn run(
 {
     lose(loss, support);
     let mut exposure = exposure_of(ends, support);
-    let mut book = Book::gathered(vertices, ends, opened, syndrome, support, &exposure);
+    let mut latest = [0u16; VERTICES];
+    let mut earlier = [0u16; ENDS];
+    list_ends(ends, &mut latest, &mut earlier);
+    let mut ring = lone_rings(vertices);
+    let mut book = Book::gathered(
+        vertices,
+        ends,
+        opened,
+        syndrome,
+        support,
+        &exposure,
+        &mut ring,
+    );
     let mut count = 0;
     loop {
-        let following = next(growth, vertices, &book.parent, &book.low, &book.figure);
-        if !following.any {
+        let following = next(growth, vertices, &book.figure);
+        if following.from == following.to {
             return Ran { book, count };
         }
-        let grown = book.grow(ends, &following.inside, support, &mut exposure);
+        let grown = book.grow(
+            ends,
+            &latest,
+            &earlier,
+            following,
+            support,
+            &mut exposure,
+            &mut ring,
+        );
         book = grown.book;
         count += 1;
     }

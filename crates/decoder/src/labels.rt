@@ -4,9 +4,8 @@ use union_find::root_of;
 ghost use mathlib.Core.Path.{_≡_};
 ghost use mathlib.Core.Bool.{not};
 ghost use Rattle.model.specs.Lent.{before};
-ghost use Rattle.union_find.specs.Trees.{rootOf};
 ghost use Rattle.union_find.specs.Joining.{sameRoot};
-ghost use Rattle.decoder.specs.TreeLabels.{RootedAt, BothRooted, Nameable, NamedAt, NameIs, Labelled, tree, Marks};
+ghost use Rattle.decoder.specs.TreeLabels.{BothRooted, Nameable, NamedAt, NameIs, Labelled};
 
 // The name of the vertex's tree: its smallest vertex, which stands by its root.
 pub(crate) fn name_of(parent: &[u16; VERTICES], low: &[u16; VERTICES], vertex: Vertex) -> Vertex
@@ -46,23 +45,4 @@ pub(crate) fn apart(parent: &[u16; VERTICES], a: Vertex, b: Vertex) -> bool
     let x = root_of(parent, a);
     let y = root_of(parent, b);
     x.0 != y.0
-}
-
-// A 1 for each vertex of the tree that holds the given one, a 0 for each other.
-pub(crate) fn tree_of(vertices: usize, parent: &[u16; VERTICES], member: Vertex) -> [u8; VERTICES]
-    requires { ⌜ RootedAt vertices (now parent) (member .0) ⌝ }
-    ensures { λ r. ⌜ Marks vertices (tree (before parent) (rootOf (before parent) (member .0))) r ⌝ }
-{
-    let root = root_of(parent, member);
-    let mut inside = [0u8; VERTICES];
-    let mut v = 0;
-    while v < vertices {
-        let number = v as u16;
-        let other = root_of(parent, Vertex(number));
-        if other.0 == root.0 {
-            inside[v] = 1;
-        }
-        v += 1;
-    }
-    inside
 }

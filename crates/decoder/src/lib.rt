@@ -2,6 +2,7 @@
 // clusters grow, and in nothing else.
 mod book;
 mod choice;
+mod end_lists;
 mod exposure;
 mod figure;
 mod growing;
@@ -9,8 +10,9 @@ mod growth;
 mod key;
 mod labels;
 mod merging;
-mod odd_clusters;
 mod odd_ends;
+mod raising;
+mod rings;
 mod shutting;
 mod solve;
 mod support;

@@ -1,88 +1,58 @@
-use model::ends::first_end;
-use model::ends::second_end;
 use model::limits::EDGES;
+use model::limits::ENDS;
 use model::limits::VERTICES;
 use model::numbers::Edge;
 use model::numbers::FULL;
 use model::numbers::HalfEdges;
+use model::numbers::Vertex;
 ghost use mathlib.Core.Path.{_≡_};
-ghost use Prim.Native.Nat.{_+_, _≤_, min};
 ghost use lib.ListN.{length};
 ghost use Rattle.model.specs.Lent.{before, after};
-ghost use Rattle.decoder.specs.Gains.{Gainable, gains, Liftable, Lifts, Raisable, Raises, startOf};
+ghost use Rattle.decoder.specs.Gains.{Liftable, Lifts, RaisableAt, RaisesAt, startOf};
 
-// As many half-edges as the edge has ends that grow, which are marked by a 1.
-fn gain(ends: &[u16], inside: &[u8; VERTICES], edge: Edge) -> HalfEdges
-    requires { ⌜ Gainable (now ends) (now inside) (edge .0) ⌝ }
-    ensures { λ r. ⌜ r .0 ≡ gains (before ends) (before inside) (edge .0) ⌝ }
-{
-    let a = first_end(ends, edge);
-    let b = second_end(ends, edge);
-    let x = inside[a.0 as usize];
-    let y = inside[b.0 as usize];
-    if x != y {
-        return HalfEdges(1);
-    }
-    if x == 1 {
-        return HalfEdges(2); // both ends grow
-    }
-    HalfEdges(0)
-}
-
-// The support after a gain: up to that of a full edge.
-fn raised(support: HalfEdges, gain: HalfEdges) -> HalfEdges
-    requires { ⌜ (support .0 ≤ 2) × (gain .0 ≤ 2) ⌝ }
-    ensures { λ r. ⌜ r .0 ≡ min 2 (support .0 + gain .0) ⌝ }
-{
-    let sum = support.0 + gain.0;
-    if sum < FULL.0 {
-        return HalfEdges(sum);
-    }
-    HalfEdges(FULL.0)
-}
-
-// An edge that isn't full gains as many half-edges as it has ends that grow. Says whether it becomes full.
-fn lift(ends: &[u16], inside: &[u8; VERTICES], support: &mut [u8], edge: Edge) -> bool
-    requires { ⌜ Liftable (now ends) (now inside) (now support) (edge .0) ⌝ }
-    ensures { λ r. ⌜ Lifts (before ends) (before inside) (before support) (edge .0) r (after support) ⌝ }
+// An edge that isn't full gains a half-edge. If it becomes full, it is listed behind the `count` listed ones. The answer is how many are listed
+// then.
+fn lift(support: &mut [u8], filled: &mut [u16; EDGES], edge: Edge, count: usize) -> usize
+    requires { ⌜ Liftable (now support) (edge .0) count ⌝ }
+    ensures { λ r. ⌜ Lifts (before support) (before filled) (edge .0) count r (after support) (after filled) ⌝ }
 {
     let e = edge.0 as usize;
     let byte = support[e];
-    let before = HalfEdges(byte);
-    if before.is_full() {
-        return false;
+    let half = HalfEdges(byte);
+    if half.is_full() {
+        return count;
     }
-    let gained = gain(ends, inside, edge);
-    if gained.0 == 0 {
-        return false; // most edges touch no cluster that grows
+    support[e] = byte + 1;
+    if byte == 0 {
+        return count;
     }
-    let after = raised(before, gained);
-    support[e] = after.0;
-    after.is_full()
+    filled[count] = edge.0;
+    count + 1
 }
 
-// The marked vertices grow: every edge is lifted. The edges that become full are listed, rising, and their number is returned.
-pub(crate) fn raise(
-    ends: &[u16],
-    inside: &[u8; VERTICES],
+// Every edge that isn't full gains as many half-edges as it has ends at the vertex, up to 2.
+pub(crate) fn raise_at(
+    latest: &[u16; VERTICES],
+    earlier: &[u16; ENDS],
+    vertex: Vertex,
     support: &mut [u8],
     filled: &mut [u16; EDGES],
+    count: usize,
 ) -> usize
-    requires { ⌜ Raisable (now ends) (now inside) (now support) (now filled) ⌝ }
-    ensures { λ r. ⌜ Raises (before ends) (before inside) (before support) (after support) (after filled) r ⌝ }
+    requires { ⌜ RaisableAt (now latest) (now earlier) (vertex .0) (now support) (now filled) count ⌝ }
+    ensures { λ r.
+        ⌜ RaisesAt (before latest) (before earlier) (vertex .0) (before support) (before filled) count
+        r (after support) (after filled) ⌝ }
 {
-    let mut count = 0;
-    let mut e = 0;
-    while e < support.len() {
-        let number = e as u16;
-        let edge = Edge(number);
-        if lift(ends, inside, support, edge) {
-            filled[count] = edge.0;
-            count += 1;
-        }
-        e += 1;
+    let mut total = count;
+    let mut place = latest[vertex.0 as usize];
+    while place != 0 {
+        let end = place - 1;
+        let edge = Edge(end / 2);
+        total = lift(support, filled, edge, total);
+        place = earlier[end as usize];
     }
-    count
+    total
 }
 
 // Lost edges start at 2, others at 0.

@@ -1,66 +1,56 @@
--- `choose` meets its contract: each turn sets one figure against the best so far. Assumes nothing.
-use Prim.Native.Nat.{_≤_, _-_}
-use mathlib.Core.Path.{_≡_, sym}
+-- `choose` meets its contract: each turn sets the smallest figure of one block against the best so far. Assumes nothing.
+use Prim.Native.Nat.{_-_}
+use mathlib.Core.Path.{sym}
 use mathlib.Core.Logic.{⊎-elim}
-use native.Mathlib.Numerals.{add-one}
-use native.Mathlib.Omega.{arith}
 use borrow.Author.Needs.{needs}
-use Rattle.union_find.specs.Trees.{at}
-use Rattle.decoder.proofs.Choosing.{Best, best-none, best-taken, best-kept, best-is-none, best-is-chosen}
+use Rattle.decoder.proofs.Choosing.{BestYet, best-begins, block-here, best-taken, best-kept, best-none, best-searchable, best-chosen}
 use Rattle.decoder.proofs.choice.choose.Statement.{statement}
 use Rattle.decoder.proofs.choice.choose.Tie as tie
 
 abbrev Inv-loop : tie.InvT-loop
-Inv-loop vertices figure chosen₀ least₀ a₀ chosen least a = (a ≤ vertices) × Best a (at figure) least (chosen .0)
+Inv-loop vertices figure least₀ block₀ from₀ least block from = BestYet figure from least block
 
 abbrev μ-loop : tie.MeasureT-loop
-μ-loop vertices figure chosen₀ least₀ a₀ chosen least a = vertices - a
+μ-loop vertices figure least₀ block₀ from₀ least block from = vertices - from
 
 loop-holds : tie.Need-loop-holds Inv-loop μ-loop
-loop-holds c = (search needs, best-none _ _)
+loop-holds c = best-begins _
 
-mul-if1 : tie.Need-mul-if1 Inv-loop μ-loop
-mul-if1 c = search needs
+smallest-in-requires : tie.Need-smallest-in-requires Inv-loop μ-loop
+smallest-in-requires c κs = block-here _ _ (c .before .before .pre) _ _ _ (c .before .loop .inv) (c .loop-test .taken)
 
-element-copy-out-if1 : tie.Need-element-copy-out-if1 Inv-loop μ-loop
-element-copy-out-if1 c = search needs
-
-cast-label : tie.Need-cast-label Inv-loop μ-loop
-cast-label c = search needs
-
-mul-least : tie.Need-mul-least Inv-loop μ-loop
-mul-least c = search needs
-
-element-copy-out-least : tie.Need-element-copy-out-least Inv-loop μ-loop
-element-copy-out-least c = search needs
-
-add-a : tie.Need-add-a Inv-loop μ-loop
-add-a c = search needs
+add-from : tie.Need-add-from Inv-loop μ-loop
+add-from c = search needs
 
 loop-less : tie.Need-loop-less Inv-loop μ-loop
 loop-less c = search needs
 
 loop-again : tie.Need-loop-again Inv-loop μ-loop
 loop-again c =
-    let at-loop = c .before .before .before in
-    let before = at-loop .loop .inv .1 in (
-      search needs,
-      rw add-one
-          (⊎-elim
-          (λ w. rw (w .2, w .3) (best-taken _ _ _ _ (w .0 .taken) before))
-          (λ w. rw (w .1, w .2) (best-kept _ _ _ _ (omega (arith, w .0 .left)) before))
-          (c .if1 .came)),
-    )
+    let turn = c .before .before in
+    let at-loop = turn .before in
+    let found = c .before .smallest-in .ensures in
+    ⊎-elim
+    (λ w. rw (w .1, w .2) (best-taken _ _ (at-loop .before .pre) _ _ _ (at-loop .loop .inv) (turn .loop-test .taken) _ found (w .0 .taken)))
+    (λ w. rw (w .1, w .2) (best-kept _ _ (at-loop .before .pre) _ _ _ (at-loop .loop .inv) (turn .loop-test .taken) _ found (w .0 .left)))
+    (c .if1 .came)
 
 returns : tie.Need-returns Inv-loop μ-loop
 returns c =
-    let p : c .before .before .before .args .vertices ≡ c .before .before .loop .a = omega arith in
-    rw p (sym (best-is-none (c .if2 .taken) (c .before .before .loop .inv .1)))
+    let at-end = c .before in
+    sym (best-none _ _ (at-end .before .before .pre) _ _ _ (at-end .before .loop .inv) (at-end .loop-test .left) (c .if2 .taken))
+
+first-equal-requires : tie.Need-first-equal-requires Inv-loop μ-loop
+first-equal-requires c κs =
+    let at-end = c .before in
+    best-searchable _ _ (at-end .before .before .pre) _ _ _ (at-end .before .loop .inv) (at-end .loop-test .left) (c .if2 .left)
 
 returns-2 : tie.Need-returns-2 Inv-loop μ-loop
 returns-2 c =
-    let p : c .before .before .before .args .vertices ≡ c .before .before .loop .a = omega arith in
-    rw p (sym (best-is-chosen (c .if2 .left) (c .before .before .loop .inv .1)))
+    let test = c .before in
+    let at-end = test .before in
+    sym
+    (best-chosen _ _ (at-end .before .before .pre) _ _ _ (at-end .before .loop .inv) (at-end .loop-test .left) (test .if2 .left) _ (c .first-equal .ensures))
 
 pub choose-spec : {M : Type 1} → statement M
 choose-spec =
@@ -69,13 +59,10 @@ choose-spec =
     Inv-loop
     μ-loop
     loop-holds
-    mul-if1
-    element-copy-out-if1
-    cast-label
-    mul-least
-    element-copy-out-least
-    add-a
+    smallest-in-requires
+    add-from
     loop-less
     loop-again
     returns
+    first-equal-requires
     returns-2)

@@ -4,17 +4,37 @@ use mathlib.Core.Path.{sym}
 use native.Mathlib.Numerals.{add-one}
 use native.Mathlib.Omega.{arith}
 use lib.ListN.{length}
-use borrow.Author.Tests.{not-true, not-false}
-use Rattle.decoder.proofs.RunLaws.{Running, countable, gatherable, run-begins, figurable, run-done, growths-left, growable, run-more}
+use Rattle.decoder.proofs.RunLaws.{Running, none-listed, listable, countable, gatherable, run-begins, choosable, run-done, growths-left, growable, run-more}
 use Rattle.decoder.proofs.growth.run.Statement.{statement}
 use Rattle.decoder.proofs.growth.run.Tie as tie
 
 abbrev Inv-loop : tie.InvT-loop
-Inv-loop growth vertices ends opened syndrome loss support₀ exposure₀ book₀ count₀ support exposure book count =
-    Running growth vertices ends opened syndrome loss support exposure book count
+Inv-loop growth vertices ends opened syndrome loss support₀ exposure₀ latest earlier ring₀ book₀ count₀ support exposure ring book count =
+    Running growth vertices ends opened syndrome loss support exposure ring book count
 
 abbrev μ-loop : tie.MeasureT-loop
-μ-loop growth vertices ends opened syndrome loss support₀ exposure₀ book₀ count₀ support exposure book count = 2 * length loss - count
+μ-loop growth vertices ends opened syndrome loss support₀ exposure₀ latest earlier ring₀ book₀ count₀ support exposure ring book count =
+    2 * length loss - count
+
+-- The start: where the call began, and what was made since, one after another
+
+abbrev start-at : tie.After-lose Inv-loop μ-loop → tie.Start Inv-loop μ-loop
+start-at c = c .before .before .before .before .before .before .before
+
+abbrev lost-at : tie.After-exposure-of Inv-loop μ-loop → tie.After-lose Inv-loop μ-loop
+lost-at c = c .before .before .before .before
+
+abbrev counted-at : tie.After-list-ends Inv-loop μ-loop → tie.After-exposure-of Inv-loop μ-loop
+counted-at c = c .before .before .before
+
+abbrev ringed-at : tie.After-gathered Inv-loop μ-loop → tie.After-lone-rings Inv-loop μ-loop
+ringed-at c = c .before .before .before .before
+
+abbrev listed-at : tie.After-gathered Inv-loop μ-loop → tie.After-list-ends Inv-loop μ-loop
+listed-at c = ringed-at c .before
+
+abbrev start-of : tie.After-gathered Inv-loop μ-loop → tie.Start Inv-loop μ-loop
+start-of c = start-at (lost-at (counted-at (listed-at c)))
 
 lose-requires : tie.Need-lose-requires Inv-loop μ-loop
 lose-requires c κs = sym (c .before .before .before .before .before .before .pre .long)
@@ -22,64 +42,90 @@ lose-requires c κs = sym (c .before .before .before .before .before .before .pr
 exposure-of-requires : tie.Need-exposure-of-requires Inv-loop μ-loop
 exposure-of-requires c κs =
     let lost = c .before .before .before in
-    let start = lost .before .before .before .before .before .before .before in
+    let start = start-at lost in
     countable (start .args .growth) _ _ _ _ _ _ (start .pre) _ (lost .lose .ensures)
+
+list-ends-requires : tie.Need-list-ends-requires Inv-loop μ-loop
+list-ends-requires c κs =
+    let start = start-at (lost-at (c .before .before)) in
+    (listable (start .args .growth) _ _ _ _ _ _ (start .pre), none-listed)
+
+lone-rings-requires : tie.Need-lone-rings-requires Inv-loop μ-loop
+lone-rings-requires c κs = start-at (lost-at (counted-at c)) .pre .lent .vertex-limit
 
 gathered-requires : tie.Need-gathered-requires Inv-loop μ-loop
 gathered-requires c κs =
-    let counted = c .before .before in
-    let lost = counted .before .before .before .before in
-    let start = lost .before .before .before .before .before .before .before in
-    gatherable (start .args .growth) _ _ _ _ _ _ (start .pre) _ (lost .lose .ensures) _ (counted .exposure-of .ensures)
+    let ringed = c .before .before .before in
+    let counted = counted-at (ringed .before) in
+    let lost = lost-at counted in
+    let start = start-at lost in
+    gatherable (start .args .growth) _ _ _ _ _ _ (start .pre) _ (lost .lose .ensures) _ (counted .exposure-of .ensures) _ (ringed .lone-rings .ensures)
 
 loop-holds : tie.Need-loop-holds Inv-loop μ-loop
 loop-holds c =
-    let counted = c .before .before .before in
-    let lost = counted .before .before .before .before in
-    let start = lost .before .before .before .before .before .before .before in
-    run-begins (start .args .growth) _ _ _ _ _ _ (start .pre) _ (lost .lose .ensures) _ (counted .exposure-of .ensures) _ (c .gathered .ensures)
+    let counted = counted-at (listed-at c) in
+    let lost = lost-at counted in
+    let start = start-at lost in
+    run-begins (start .args .growth) _ _ _ _ _ _ (start .pre) _ (lost .lose .ensures) _ (counted .exposure-of .ensures) _ _ (c .gathered .ensures)
+
+-- A turn of the loop: what grows next, after the start of the turn
+
+abbrev followed-at : tie.Else1 Inv-loop μ-loop → tie.After-next Inv-loop μ-loop
+followed-at c = c .before .before
+
+abbrev turn-at : tie.After-next Inv-loop μ-loop → tie.At-loop Inv-loop μ-loop
+turn-at c = c .before .before .before
 
 next-requires : tie.Need-next-requires Inv-loop μ-loop
-next-requires c κs = figurable _ _ _ _ _ _ _ (c .before .before .before .before .before .before .before .before .before .before .before .before .before .before .before .before .before .before .before .pre) _ _ _ _ (c .before .before .before .before .loop .inv)
+next-requires c κs =
+    let turn = c .before .before in
+    choosable _ _ _ _ _ _ _ (start-of (turn .before) .pre) _ _ _ _ _ (turn .loop .inv)
 
 same-length : tie.Need-same-length Inv-loop μ-loop
-same-length c = omega (arith, c .before .before .before .before .before .before .loop .inv .long, c .before .before .before .before .before .before .before .before .before .before .before .before .before .before .before .before .before .before .before .before .before .pre .long)
+same-length c =
+    let turn = turn-at (c .before .before) in
+    omega (arith, turn .loop .inv .long, start-of (turn .before) .pre .long)
 
 returns : tie.Need-returns Inv-loop μ-loop
 returns c =
-    let followed = c .before in
-    let at = followed .before .before .before .before .before in
-    run-done _ _ _ _ _ _ _ (at .before .before .before .before .before .before .before .before .before .before .before .before .before .before .before .pre) _ _ _ _ (at .loop .inv) _ (followed .next .ensures) (not-true _ (c .if1 .taken))
+    let followed = c .before .before in
+    let turn = turn-at followed in
+    run-done _ _ _ _ _ _ _ (start-of (turn .before) .pre) _ _ _ _ _ (turn .loop .inv) _ (followed .next .ensures) (c .if1 .taken)
 
 grow-requires : tie.Need-grow-requires Inv-loop μ-loop
 grow-requires c κs =
-    let test = c .before .before .before .before in
-    let followed = test .before in
-    let at = followed .before .before .before .before .before in
-    growable _ _ _ _ _ _ _ (at .before .before .before .before .before .before .before .before .before .before .before .before .before .before .before .pre) _ _ _ _ (at .loop .inv) _ (followed .next .ensures) (not-false _ (test .if1 .left))
+    let test = c .before .before .before .before .before in
+    let followed = followed-at test in
+    let turn = turn-at followed in
+    growable _ _ _ _ _ _ _ (start-of (turn .before) .pre) _ _ _ _ _ (turn .loop .inv) _ (followed .next .ensures) (test .if1 .left) _ _ (listed-at (turn .before) .list-ends .ensures)
 
 -- a cluster has grown, so there were growths left
 more : (c : tie.Else1 Inv-loop μ-loop)
-    → c .before .before .before .before .before .before .loop .count < 2 * length (c .before .before .before .before .before .before .before .before .before .before .before .before .before .before .before .before .before .before .before .before .before .args .loss .now)
+    → turn-at (followed-at c) .loop .count < 2 * length (start-of (turn-at (followed-at c) .before) .args .loss .now)
 more c =
-    let followed = c .before in
-    let at = followed .before .before .before .before .before in
-    growths-left _ _ _ _ _ _ _ (at .before .before .before .before .before .before .before .before .before .before .before .before .before .before .before .pre) _ _ _ _ (at .loop .inv) _ (followed .next .ensures) (not-false _ (c .if1 .left))
+    let followed = followed-at c in
+    let turn = turn-at followed in
+    growths-left _ _ _ _ _ _ _ (start-of (turn .before) .pre) _ _ _ _ _ (turn .loop .inv) _ (followed .next .ensures) (c .if1 .left)
+
+-- where the turn's test was, once its cluster has grown
+abbrev test-at : tie.After-book2 Inv-loop μ-loop → tie.Else1 Inv-loop μ-loop
+test-at c = c .before .before .before .before .before .before .before .before .before
 
 add-count : tie.Need-add-count Inv-loop μ-loop
-add-count c = omega (arith, more (c .before .before .before .before .before .before .before .before), c .before .before .before .before .before .before .before .before .before .before .before .before .before .before .before .before .before .before .before .before .before .before .before .before .before .before .before .before .before .pre .lent .edge-limit)
+add-count c =
+    omega (arith, more (test-at c), start-of (turn-at (followed-at (test-at c)) .before) .pre .lent .edge-limit)
 
 loop-less : tie.Need-loop-less Inv-loop μ-loop
-loop-less c = omega (arith, more (c .before .before .before .before .before .before .before .before))
+loop-less c = omega (arith, more (test-at c))
 
 loop-again : tie.Need-loop-again Inv-loop μ-loop
 loop-again c =
     let grown = c .before .before .before in
-    let test = grown .before .before .before .before .before in
-    let followed = test .before in
-    let at = followed .before .before .before .before .before in
+    let test = test-at c in
+    let followed = followed-at test in
+    let turn = turn-at followed in
     rw add-one
-    (run-more _ _ _ _ _ _ _ (at .before .before .before .before .before .before .before .before .before .before .before .before .before .before .before .pre) _ _ _ _ (at .loop .inv) _ (followed .next .ensures) (not-false _ (test .if1 .left)) _ _ _ (grown .grow .ensures))
+    (run-more _ _ _ _ _ _ _ (start-of (turn .before) .pre) _ _ _ _ _ (turn .loop .inv) _ (followed .next .ensures) (test .if1 .left) _ _ _ _ (grown .grow .ensures))
 
 pub run-spec : {M : Type 1} → statement M
 run-spec =
@@ -89,6 +135,8 @@ run-spec =
     μ-loop
     lose-requires
     exposure-of-requires
+    list-ends-requires
+    lone-rings-requires
     gathered-requires
     loop-holds
     next-requires

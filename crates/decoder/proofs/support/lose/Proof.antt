@@ -7,7 +7,7 @@ use native.Mathlib.Numerals.{add-one}
 use lib.ListN.{length}
 use borrow.Author.Tests.{eq-eqb, ne-eqb}
 use Rattle.model.specs.Sums.{ones, values}
-use Rattle.decoder.proofs.Raising.{Filled, fill-none, fill-one, fill-all}
+use Rattle.decoder.proofs.Lifting.{Filled, fill-none, fill-one, fill-all}
 use borrow.Author.Needs.{needs}
 use native.Mathlib.Omega.{arith}
 use Rattle.decoder.proofs.support.lose.Statement.{statement}

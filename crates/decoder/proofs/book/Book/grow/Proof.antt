@@ -1,89 +1,127 @@
--- `grow` meets its contract: document 01's step 4. Each turn of its loop fuses the ends of one newly full edge, unless they are together
--- already. Assumes nothing.
-use Prim.Native.Nat.{ℕ, _≤_, _-_}
+-- `grow` meets its contract: document 01's step 4. Each turn of its loop fuses the ends of one newly full edge and joins their rings, unless
+-- they are together already. Assumes nothing.
+use Prim.Native.Nat.{ℕ, _≤_, _<_, _-_}
 use mathlib.Core.Path.{_≡_}
 use mathlib.Core.Logic.{⊎-elim}
+use mathlib.Core.List.{List}
 use native.Mathlib.Numerals.{add-one}
 use native.Mathlib.Omega.{arith}
-use lib.ListN.{length, length-replicate}
+use lib.ListN.{length, getD}
 use borrow.Author.Needs.{needs}
-use Rattle.model.specs.Board.{edgeLimit, EndsWithin}
-use Rattle.decoder.specs.Books.{FusesListed}
+use Rattle.model.specs.Board.{edgeLimit}
+use Rattle.decoder.specs.Rings.{Rings}
+use Rattle.decoder.specs.Books.{BothKept, FusesListed}
 use Rattle.decoder.proofs.BookLaws.{united-together}
-use Rattle.decoder.proofs.Fusing.{fuse-next}
-use Rattle.decoder.proofs.GrowthStep.{raisable, growable-listed, shut-begins, next-kept, grows}
+use Rattle.decoder.proofs.Fusing.{fuse-next, both-rooted, both-named, joined-rings}
+use Rattle.decoder.proofs.GrowthStep.{raisable, raised, few-listed, growable-listed, shut-begins, shut-rings, next-kept, grows}
 use Rattle.decoder.proofs.book.Book.grow.Statement.{statement}
 use Rattle.decoder.proofs.book.Book.grow.Tie as tie
 
 abbrev Inv-loop : tie.InvT-loop
-Inv-loop ends inside support exposure book₀ filled count i₀ book i = (i ≤ count) × FusesListed book₀ ends filled i book
+Inv-loop ends latest earlier support exposure ring₀ book₀ filled count i₀ ring book i =
+    (i ≤ count) × (FusesListed book₀ ends filled i book × Rings (book .vertices) (book .parent) (book .low) exposure ring)
 
 abbrev μ-loop : tie.MeasureT-loop
-μ-loop ends inside support exposure book₀ filled count i₀ book i = count - i
+μ-loop ends latest earlier support exposure ring₀ book₀ filled count i₀ ring book i = count - i
 
 raise-requires : tie.Need-raise-requires Inv-loop μ-loop
 raise-requires c κs =
-    let start = c .before .before .before .before in
-    raisable (start .args .self) _ _ _ _ (start .pre) _ (length-replicate {A = ℕ} edgeLimit 0)
+    let start = c .before .before .before .before .before .before .before .before in
+    raisable (start .args .self) _ _ _ _ _ _ _ (start .pre)
+
+-- Where the call began, what raising leaves, and what shutting leaves
+
+abbrev start-of : tie.After-raise Inv-loop μ-loop → tie.Start Inv-loop μ-loop
+start-of c = c .before .before .before .before .before .before .before .before .before
+
+abbrev ringLeft : tie.After-raise Inv-loop μ-loop → List ℕ
+ringLeft c = c .raise .last .1 .1 .1 .1 .1 .0
+
+abbrev supportLeft : tie.After-raise Inv-loop μ-loop → List ℕ
+supportLeft c = c .raise .last .1 .1 .1 .1 .1 .1 .0
+
+abbrev filledLeft : tie.After-raise Inv-loop μ-loop → List ℕ
+filledLeft c = c .raise .last .1 .1 .1 .1 .1 .1 .1 .0
+
+abbrev raised-of : tie.After-shut-listed Inv-loop μ-loop → tie.After-raise Inv-loop μ-loop
+raised-of c = c .before .before .before .before .before .before .before .before .before .before
+
+abbrev exposureLeft : tie.After-shut-listed Inv-loop μ-loop → List ℕ
+exposureLeft c = c .shut-listed .last .1 .1 .1 .1 .1 .0
+
+abbrev figureLeft : tie.After-shut-listed Inv-loop μ-loop → List ℕ
+figureLeft c = c .shut-listed .last .1 .1 .1 .1 .1 .1 .0
 
 shut-listed-requires : tie.Need-shut-listed-requires Inv-loop μ-loop
 shut-listed-requires c κs =
-    let raised = c .before .before .before .before .before .before .before .before .before in
-    let start = raised .before .before .before .before .before in
-    growable-listed (start .args .self) _ _ _ _ (start .pre) _ _ _ (raised .raise .ensures)
+    let at = c .before .before .before .before .before .before .before .before .before in
+    let start = start-of at in
+    growable-listed (start .args .self) _ _ _ _ _ _ _ (start .pre) _ (ringLeft at) (supportLeft at) (filledLeft at) (at .raise .ensures)
 
 loop-holds : tie.Need-loop-holds Inv-loop μ-loop
 loop-holds c =
-    let raised = c .before .before .before .before .before .before .before .before .before .before in
-    let start = raised .before .before .before .before .before in
-    (search needs, shut-begins (start .args .self) _ _ _ _ (start .pre) _ _ _ (raised .raise .ensures) _ _ (c .shut-listed .ensures))
+    let at = raised-of c in
+    let start = start-of at in (
+      search needs,
+      (
+        shut-begins (start .args .self) _ _ _ _ _ _ _ (start .pre) _ (ringLeft at) (supportLeft at) (filledLeft at) (at .raise .ensures)
+            (exposureLeft c) (figureLeft c) (c .shut-listed .ensures),
+        shut-rings (start .args .self) _ _ _ _ _ _ _ (start .pre) _ (ringLeft at) (supportLeft at) (filledLeft at) (at .raise .ensures)
+            (exposureLeft c) (figureLeft c) (c .shut-listed .ensures),
+      ),
+    )
 
--- In a turn of the loop: where the call began, and that the edges are listed
+-- In a turn of the loop
 
 abbrev raised-at : tie.In-loop Inv-loop μ-loop → tie.After-raise Inv-loop μ-loop
-raised-at c = c .before .before .before .before .before .before .before .before .before .before .before .before
+raised-at c = raised-of (c .before .before)
 
-abbrev start-at : tie.In-loop Inv-loop μ-loop → tie.Start Inv-loop μ-loop
-start-at c = raised-at c .before .before .before .before .before
-
-few-listed : (c : tie.In-loop Inv-loop μ-loop) → raised-at c .raise .result ≤ edgeLimit
-few-listed c = omega (arith, raised-at c .raise .ensures .few, start-at c .pre .lent .edge-limit)
-
-edge-ends : (c : tie.In-loop Inv-loop μ-loop) → EndsWithin (start-at c .args .self .vertices) (length (start-at c .args .support .now)) (start-at c .args .ends .now)
-edge-ends c = start-at c .pre .lent
+few : (c : tie.In-loop Inv-loop μ-loop) → raised-at c .raise .result ≤ edgeLimit
+few c =
+    let at = raised-at c in
+    let start = start-of at in
+    few-listed (start .args .self) _ _ _ _ _ _ _ (start .pre) _ (ringLeft at) (supportLeft at) (filledLeft at) (at .raise .ensures)
 
 mul-number : tie.Need-mul-number Inv-loop μ-loop
-mul-number c = let few = few-listed c in search needs
+mul-number c = let h = few c in search needs
 
 array-read-number : tie.Need-array-read-number Inv-loop μ-loop
-array-read-number c = omega (arith, c .loop-test .taken, few-listed c)
+array-read-number c = omega (arith, c .loop-test .taken, few c)
+
+-- the edge whose turn it is, and its ends
+listed-edge : (c : tie.In-loop Inv-loop μ-loop) →
+    getD (filledLeft (raised-at c)) (c .before .loop .i) 0 < length (start-of (raised-at c) .args .support .now)
+listed-edge c =
+    let at = raised-at c in
+    let start = start-of at in
+    raised (start .args .self) _ _ _ _ _ _ _ (start .pre) _ (ringLeft at) (supportLeft at) (filledLeft at) (at .raise .ensures) .edges _
+    (c .loop-test .taken)
 
 first-end-requires : tie.Need-first-end-requires Inv-loop μ-loop
-first-end-requires c κs = omega (arith, raised-at c .raise .ensures .edges _ (c .loop-test .taken), edge-ends c .two-ends)
+first-end-requires c κs = omega (arith, listed-edge c, start-of (raised-at c) .pre .lent .two-ends)
 
 second-end-requires : tie.Need-second-end-requires Inv-loop μ-loop
-second-end-requires c κs = omega (arith, raised-at (c .before) .raise .ensures .edges _ (c .before .loop-test .taken), edge-ends (c .before) .two-ends)
+second-end-requires c κs = omega (arith, listed-edge (c .before), start-of (raised-at (c .before)) .pre .lent .two-ends)
+
+kept-at : (c : tie.After-second-end Inv-loop μ-loop) →
+    BothKept (c .before .before .before .loop .book) (c .before .first-end .result .0) (c .second-end .result .0)
+kept-at c =
+    let test = c .before .before in
+    let shut = test .before .before in
+    let at = raised-of shut in
+    let start = start-of at in
+    next-kept (start .args .self) _ _ _ _ _ _ _ (start .pre) _ (ringLeft at) (supportLeft at) (filledLeft at) (at .raise .ensures)
+    (exposureLeft shut) (figureLeft shut) (shut .shut-listed .ensures) _ _ (test .before .loop .inv .1 .0) (test .loop-test .taken) _ _
+    (c .before .first-end .ensures) (c .second-end .ensures)
 
 apart-requires : tie.Need-apart-requires Inv-loop μ-loop
-apart-requires c κs =
-    let second = c .before .before in
-    let first = second .before in
-    let at = first .before .before in
-    let kept = next-kept (start-at (first .before) .args .self) _ _ _ _ (start-at (first .before) .pre) _ _ _ (raised-at (first .before) .raise .ensures) _ _
-    (at .before .shut-listed .ensures) _ _ (at .loop .inv .1) (first .before .loop-test .taken) _ _ (first .first-end .ensures) (second .second-end .ensures) in
-    record {
-      vertices = at .loop .book .vertices;
-      rooted = record { size = at .loop .book .size; climbs = kept .good .trees .climbs };
-      first = kept .first;
-      second = kept .second;
-    }
+apart-requires c κs = both-rooted _ _ _ (kept-at (c .before .before))
+
+join-rings-requires : tie.Need-join-rings-requires Inv-loop μ-loop
+join-rings-requires c κs = both-named _ _ _ (kept-at (c .before .before .before .before .before .before .before .before))
 
 fuse-requires : tie.Need-fuse-requires Inv-loop μ-loop
-fuse-requires c κs =
-    let second = c .before .before .before .before in
-    let test = second .before .before in
-    next-kept (start-at test .args .self) _ _ _ _ (start-at test .pre) _ _ _ (raised-at test .raise .ensures) _ _
-    (test .before .before .shut-listed .ensures) _ _ (test .before .loop .inv .1) (test .loop-test .taken) _ _ (second .before .first-end .ensures) (second .second-end .ensures)
+fuse-requires c κs = kept-at (c .before .before .before .before .before .before .before .before .before)
 
 add-i : tie.Need-add-i Inv-loop μ-loop
 add-i c = search needs
@@ -97,14 +135,20 @@ loop-again c =
     let second = tested .before .before .before in
     let first = second .before in
     let at = first .before .before in
-    let now = at .loop .inv .1 in (
+    let now = at .loop .inv .1 .0 in (
       search needs,
       rw add-one
           (⊎-elim
-          (λ w. rw (w .3) (fuse-next _ _ _ _ _ now _ _ _ (first .first-end .ensures) (second .second-end .ensures) (w .1 .ensures .unites)))
-          (λ w. rw (w .1)
-          (fuse-next _ _ _ _ _ now _ _ _ (first .first-end .ensures) (second .second-end .ensures)
-          (united-together (at .loop .book) _ _ _ (now .good) (tested .apart .ensures) (w .0 .left))))
+          (λ w. rw (w .8, w .9) (
+            fuse-next _ _ _ _ _ now _ _ _ (first .first-end .ensures) (second .second-end .ensures) (w .6 .ensures .unites),
+            joined-rings _ _ _ (kept-at second) _ (tested .apart .ensures) (w .0 .taken) _ _ _ (w .5 .ensures) _ (w .6 .ensures .unites)
+                (at .loop .inv .1 .1),
+          ))
+          (λ w. rw (w .1, w .2) (
+            fuse-next _ _ _ _ _ now _ _ _ (first .first-end .ensures) (second .second-end .ensures)
+                (united-together (at .loop .book) _ _ _ (now .good) (tested .apart .ensures) (w .0 .left)),
+            at .loop .inv .1 .1,
+          ))
           (c .if1 .came)),
     )
 
@@ -113,13 +157,13 @@ same-length c = search needs
 
 returns : tie.Need-returns Inv-loop μ-loop
 returns c =
-    let at = c .before in
-    let shut = at .before in
-    let raised = shut .before .before .before .before .before .before .before .before .before .before in
-    let start = raised .before .before .before .before .before in
-    let p : at .loop .i ≡ raised .raise .result = omega arith in
-    grows (start .args .self) _ _ _ _ (start .pre) _ _ _ (raised .raise .ensures) _ _ (shut .shut-listed .ensures) _
-    (rw p at (at .loop .inv .1))
+    let loop = c .before .loop in
+    let shut = c .before .before in
+    let at = raised-of shut in
+    let start = start-of at in
+    let p : loop .i ≡ at .raise .result = omega arith in
+    grows (start .args .self) _ _ _ _ _ _ _ (start .pre) _ (ringLeft at) (supportLeft at) (filledLeft at) (at .raise .ensures)
+    (exposureLeft shut) (figureLeft shut) (shut .shut-listed .ensures) _ _ (rw p at (loop .inv .1 .0)) (loop .inv .1 .1)
 
 pub grow-spec : {M : Type 1} → statement M
 grow-spec =
@@ -135,6 +179,7 @@ grow-spec =
     first-end-requires
     second-end-requires
     apart-requires
+    join-rings-requires
     fuse-requires
     add-i
     loop-less

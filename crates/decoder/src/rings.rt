@@ -1,0 +1,61 @@
+// The rings of the clusters: by each vertex stands another of its cluster, and from the smallest vertex of a cluster one goes round through
+// all that are on its boundary. Growth looks at no other vertex.
+use crate::labels::name_of;
+use model::limits::VERTICES;
+use model::numbers::Vertex;
+ghost use Prim.Native.Nat.{_≤_};
+ghost use Rattle.model.specs.Board.{vertexLimit};
+ghost use Rattle.model.specs.Lent.{before, after};
+ghost use Rattle.decoder.specs.Rings.{LoneRings, Prunable, Prunes, BothNamed, JoinsRings};
+
+// Each vertex alone: its ring is itself.
+pub(crate) fn lone_rings(vertices: usize) -> [u16; VERTICES]
+    requires { ⌜ vertices ≤ vertexLimit ⌝ }
+    ensures { λ r. ⌜ LoneRings vertices r ⌝ }
+{
+    let mut ring = [0u16; VERTICES];
+    let mut v = 0;
+    while v < vertices {
+        ring[v] = v as u16;
+        v += 1;
+    }
+    ring
+}
+
+// The ring of the cluster with that smallest vertex, without the vertices that have left the boundary. The smallest stays, as the ring's place.
+pub(crate) fn prune(exposure: &[u16; VERTICES], ring: &mut [u16; VERTICES], name: Vertex)
+    requires { ⌜ Prunable (now exposure) (now ring) (name .0) ⌝ }
+    ensures { λ _. ⌜ Prunes (before exposure) (before ring) (name .0) (after ring) ⌝ }
+{
+    let mut kept = name.0;
+    let mut v = ring[name.0 as usize];
+    while v != name.0 {
+        let after = ring[v as usize];
+        if exposure[v as usize] == 0 {
+            ring[kept as usize] = after;
+        } else {
+            kept = v;
+        }
+        v = after;
+    }
+}
+
+// The rings of the clusters of a and b as one: where each went on from its smallest vertex, the other does.
+pub(crate) fn join_rings<'a>(
+    parent: &'a [u16; VERTICES],
+    low: &'a [u16; VERTICES],
+    ring: &mut [u16; VERTICES],
+    a: Vertex,
+    b: Vertex,
+)
+    requires { ⌜ BothNamed (now parent) (now low) (a .0) (b .0) ⌝ }
+    ensures { λ _. ⌜ JoinsRings (before parent) (before low) (a .0) (b .0) (before ring) (after ring) ⌝ }
+{
+    let one = name_of(parent, low, a);
+    let other = name_of(parent, low, b);
+    let p = one.0 as usize;
+    let q = other.0 as usize;
+    let after = ring[p];
+    ring[p] = ring[q];
+    ring[q] = after;
+}
