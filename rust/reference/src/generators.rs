@@ -177,6 +177,12 @@ pub fn path(vertices: usize) -> Board {
     Board::new(vertices, &edges)
 }
 
+/// The ring 0, 1, 2, .. and back to 0 with no marks.
+pub fn long_ring(vertices: usize) -> Board {
+    let edges: Vec<_> = (0..vertices).map(|v| (v as u16, ((v + 1) % vertices) as u16, 0)).collect();
+    Board::new(vertices, &edges)
+}
+
 /// The star around vertex 0 with no marks.
 pub fn star(vertices: usize) -> Board {
     let edges: Vec<_> = (1..vertices).map(|v| (0, v as u16, 0)).collect();
