@@ -1,4 +1,5 @@
 pub mod Searching
+pub mod Bounding
 pub mod CopyLaws
 pub mod Failures
 pub mod Passing

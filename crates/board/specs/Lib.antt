@@ -1,2 +1,3 @@
+pub mod Bounds
 pub mod Checks
 pub mod Incidence

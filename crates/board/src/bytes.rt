@@ -1,3 +1,4 @@
+use crate::largest::largest_byte;
 use crate::outcome::FoundEdge;
 use crate::outcome::FoundVertex;
 use model::numbers::Edge;
@@ -19,6 +20,16 @@ pub enum Place {
 
 // The first place whose byte is above the limit: the pass behind the tests 6 to 9 and 16.
 fn first_above(bytes: &[u8], limit: u8) -> Place
+    ensures { λ r. ⌜ placeFound r ≡ firstUpTo (length (before bytes)) (above limit (before bytes)) ⌝ }
+{
+    if largest_byte(bytes) <= limit {
+        return Place::Nowhere;
+    }
+    place_above(bytes, limit)
+}
+
+// The same, by a look at each byte until one is above the limit.
+fn place_above(bytes: &[u8], limit: u8) -> Place
     ensures { λ r. ⌜ placeFound r ≡ firstUpTo (length (before bytes)) (above limit (before bytes)) ⌝ }
 {
     let mut i = 0;

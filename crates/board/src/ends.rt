@@ -1,3 +1,4 @@
+use crate::largest::largest_end;
 use crate::outcome::FoundEdge;
 use model::ends::first_end;
 use model::ends::second_end;
@@ -13,6 +14,18 @@ ghost use Rattle.board.specs.Checks.{edgeFound};
 
 // Test 4: the first edge that has an end at or above the vertex count.
 pub fn first_outside(vertices: usize, ends: &[u16]) -> FoundEdge
+    requires { ⌜ length (now ends) ≤ 2 * edgeLimit ⌝ }
+    ensures { λ r. ⌜ edgeFound r ≡ firstUpTo (edgesOf (before ends)) (outside (plain vertices 0 (before ends))) ⌝ }
+{
+    let top = largest_end(ends);
+    if (top as usize) < vertices {
+        return FoundEdge::Nothing;
+    }
+    edge_outside(vertices, ends)
+}
+
+// The same, by a look at each edge until one has such an end.
+fn edge_outside(vertices: usize, ends: &[u16]) -> FoundEdge
     requires { ⌜ length (now ends) ≤ 2 * edgeLimit ⌝ }
     ensures { λ r. ⌜ edgeFound r ≡ firstUpTo (edgesOf (before ends)) (outside (plain vertices 0 (before ends))) ⌝ }
 {

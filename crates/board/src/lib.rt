@@ -5,6 +5,7 @@ pub mod copy;
 pub mod counts;
 pub mod ends;
 pub mod incidence;
+pub mod largest;
 pub mod opened;
 pub mod outcome;
 pub mod tests;

@@ -1,4 +1,5 @@
 use crate::bytes::vertex_above;
+use crate::largest::largest_lesser;
 use crate::outcome::Check;
 use crate::outcome::FoundVertex;
 use model::numbers::Vertex;
@@ -15,6 +16,17 @@ ghost use Rattle.board.specs.Checks.{testOf, vertexFound};
 
 // The first open vertex that is lit.
 fn first_lit_open(opened: &[u8], syndrome: &[u8]) -> FoundVertex
+    requires { ⌜ (length (now opened) ≤ vertexLimit) × (length (now syndrome) ≡ length (now opened)) ⌝ }
+    ensures { λ r. ⌜ vertexFound r ≡ firstUpTo (length (before opened)) (litOpen (before opened) (before syndrome)) ⌝ }
+{
+    if largest_lesser(opened, syndrome) == 0 {
+        return FoundVertex::Nothing;
+    }
+    lit_open(opened, syndrome)
+}
+
+// The same, by a look at each vertex until one is open and lit.
+fn lit_open(opened: &[u8], syndrome: &[u8]) -> FoundVertex
     requires { ⌜ (length (now opened) ≤ vertexLimit) × (length (now syndrome) ≡ length (now opened)) ⌝ }
     ensures { λ r. ⌜ vertexFound r ≡ firstUpTo (length (before opened)) (litOpen (before opened) (before syndrome)) ⌝ }
 {

@@ -1,52 +1,22 @@
--- `board::bytes::first_above` meets its contract. The loop's invariant: no byte before `i` is above the limit. Assumes nothing.
-use Prim.Native.Nat.{_≤_, _-_}
+-- `board::bytes::first_above` meets its contract: where the largest byte is within the limit, none is above it. Assumes nothing.
 use borrow.Author.Needs.{needs}
-use borrow.Author.Tests.{lt-ltb, le-ltb}
-use lib.ListN.{length, getD}
-use lib.Dec.{ltb}
-use Rattle.board.proofs.Searching.{Passed, passed-none, passed-more, ends-at, ends-nowhere}
+use denote.Ref.{now}
+use Rattle.board.proofs.Bounding.{none-above}
 use Rattle.board.proofs.bytes.first_above.Statement.{statement}
 use Rattle.board.proofs.bytes.first_above.Tie as tie
 
-abbrev Inv-loop : tie.InvT-loop
-Inv-loop bytes limit i₀ i = (i ≤ length bytes) × Passed (λ k. ltb limit (getD bytes k 0)) i
+largest-byte-requires : tie.Need-largest-byte-requires
+largest-byte-requires c κs = search needs
 
-abbrev μ-loop : tie.MeasureT-loop
-μ-loop bytes limit i₀ i = length bytes - i
-
-loop-holds : tie.Need-loop-holds Inv-loop μ-loop
-loop-holds c = (search needs, passed-none _)
-
-shared-slice-read-if1 : tie.Need-shared-slice-read-if1 Inv-loop μ-loop
-shared-slice-read-if1 c = search needs
-
-returns : tie.Need-returns Inv-loop μ-loop
+returns : tie.Need-returns
 returns c =
-    ends-at _ (c .before .before .before .loop .inv .1) (search needs) (lt-ltb _ _ (c .if1 .taken))
+    none-above (now (c .before .before .before .args .bytes)) (c .before .largest-byte .ensures) (c .if1 .taken)
 
-add-i : tie.Need-add-i Inv-loop μ-loop
-add-i c = search needs
+place-above-requires : tie.Need-place-above-requires
+place-above-requires c κs = search needs
 
-loop-less : tie.Need-loop-less Inv-loop μ-loop
-loop-less c = search needs
-
-loop-again : tie.Need-loop-again Inv-loop μ-loop
-loop-again c =
-    (search needs, passed-more (c .before .before .before .loop .inv .1) (le-ltb _ _ (c .if1 .left)))
-
-returns-2 : tie.Need-returns-2 Inv-loop μ-loop
-returns-2 c = ends-nowhere _ (c .before .loop .inv .1) (c .loop-test .left)
+returns-2 : tie.Need-returns-2
+returns-2 c = search needs
 
 pub first-above-spec : {M : Type 1} → statement M
-first-above-spec =
-    tie.close
-    (tie.spec
-    Inv-loop
-    μ-loop
-    loop-holds
-    shared-slice-read-if1
-    returns
-    add-i
-    loop-less
-    loop-again
-    returns-2)
+first-above-spec = tie.close (tie.spec largest-byte-requires returns place-above-requires returns-2)
