@@ -1,5 +1,6 @@
 // The connected parts of the whole board, and the vertex of number 10: the smallest of all parts that hold an odd number of syndrome
 // vertices and no open vertex.
+use board::largest::largest_byte;
 use board::outcome::FoundVertex;
 use model::ends::first_end;
 use model::ends::second_end;
@@ -96,8 +97,8 @@ fn first_marked(vertices: usize, parent: &[u16; VERTICES], odd: &[u8; VERTICES])
     FoundVertex::Nothing
 }
 
-// The smallest vertex of all odd parts of the whole board.
-pub fn first_odd(vertices: usize, ends: &[u16], opened: &[u8], syndrome: &[u8]) -> FoundVertex
+// The smallest vertex of all odd parts of the whole board, by its parts.
+fn odd_part(vertices: usize, ends: &[u16], opened: &[u8], syndrome: &[u8]) -> FoundVertex
     requires { ⌜ Searchable vertices (now ends) (now opened) (now syndrome) ⌝ }
     ensures { λ r.
         ⌜ vertexFound r ≡ smallestOdd (unmarked vertices (edgesOf (before ends)) (before ends) (before opened))
@@ -106,5 +107,21 @@ pub fn first_odd(vertices: usize, ends: &[u16], opened: &[u8], syndrome: &[u8]) 
     let parent = connect(vertices, ends);
     let mut odd = parities(&parent, syndrome);
     clear_open(&parent, opened, &mut odd);
+    if largest_byte(&odd) == 0 {
+        return FoundVertex::Nothing;
+    }
     first_marked(vertices, &parent, &odd)
+}
+
+// The same. Where nothing is lit no part is odd, and none is looked at.
+pub fn first_odd(vertices: usize, ends: &[u16], opened: &[u8], syndrome: &[u8]) -> FoundVertex
+    requires { ⌜ Searchable vertices (now ends) (now opened) (now syndrome) ⌝ }
+    ensures { λ r.
+        ⌜ vertexFound r ≡ smallestOdd (unmarked vertices (edgesOf (before ends)) (before ends) (before opened))
+        (ones (before syndrome)) ⌝ }
+{
+    if largest_byte(syndrome) == 0 {
+        return FoundVertex::Nothing;
+    }
+    odd_part(vertices, ends, opened, syndrome)
 }
