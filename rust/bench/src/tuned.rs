@@ -109,13 +109,31 @@ impl Tuned {
     }
 
     fn has_odd_part(&mut self, sheet: &Sheet) -> bool {
+        self.join_all(sheet, pairs(&sheet.board).iter());
+        self.state[..sheet.board.vertices].contains(&ODD)
+    }
+
+    /// The clusters at the start: those of the lost edges.
+    fn start(&mut self, sheet: &Sheet) {
+        let Sheet { board, loss, .. } = sheet;
+        let lost = pairs(board).iter().zip(loss).filter(|(_, lost)| **lost == 1);
+        self.join_all(sheet, lost.map(|(ends, _)| ends));
+        self.base[board.vertices..board.vertices.next_multiple_of(FIGURES)].fill(NOT_ODD);
+        for (base, &state) in self.base.iter_mut().zip(&self.state[..board.vertices]) {
+            *base = if state == ODD { 0 } else { NOT_ODD };
+        }
+        self.edges.start(loss);
+        self.incidence.find(board.vertices, pairs(board));
+    }
+
+    /// The clusters that some edges make, and their states.
+    fn join_all<'a>(&mut self, sheet: &Sheet, edges: impl Iterator<Item = &'a [u16; 2]>) {
         self.labels.alone(sheet.board.vertices);
-        for &[a, b] in pairs(&sheet.board) {
+        for &[a, b] in edges {
             self.labels.join(a, b);
         }
         self.labels.flatten();
         self.find_states(sheet);
-        self.state[..sheet.board.vertices].contains(&ODD)
     }
 
     /// The state of each cluster, by the labels.
@@ -126,26 +144,6 @@ impl Tuned {
             let state = &mut self.state[usize::from(label) % VERTICES];
             *state = (*state ^ (ODD * lit)) | (OPEN * open);
         }
-    }
-
-    /// The clusters at the start: those of the lost edges.
-    fn start(&mut self, sheet: &Sheet) {
-        let Sheet { board, loss, .. } = sheet;
-        self.labels.alone(board.vertices);
-        for (&[a, b], _) in pairs(board).iter().zip(loss).filter(|(_, lost)| **lost == 1) {
-            self.labels.join(a, b);
-        }
-        self.labels.flatten();
-        self.find_states(sheet);
-        self.base[board.vertices..board.vertices.next_multiple_of(FIGURES)].fill(NOT_ODD);
-        for (base, &state) in self.base.iter_mut().zip(&self.state[..board.vertices]) {
-            *base = if state == ODD { 0 } else { NOT_ODD };
-        }
-        for (live, lost) in self.edges.live.iter_mut().zip(loss) {
-            *live = 1 - lost;
-        }
-        self.edges.live[usize::from(incidence::NO_EDGE)] = 0;
-        self.incidence.find(board.vertices, pairs(board));
     }
 
     fn grow(&mut self, board: &Board, support: &mut [u8]) -> usize {
@@ -182,15 +180,13 @@ impl Tuned {
     /// edges.
     fn count_boundaries(&mut self, vertices: usize) {
         let Tuned { labels, incidence, edges, figure, exposed, .. } = self;
-        let live =
-            |group: &[u16; 4]| group.iter().fold(0, |any, &e| any | edges.live[usize::from(e)]);
         let (first, further) = incidence.groups();
         exposed[..vertices].fill(0);
         for (group, &vertex) in further {
-            exposed[usize::from(vertex) % VERTICES] |= live(group);
+            exposed[usize::from(vertex) % VERTICES] |= edges.any_live(group);
         }
         for ((&label, group), exposed) in labels.all().iter().zip(first).zip(&*exposed) {
-            figure[usize::from(label)] += u16::from(live(group) | exposed);
+            figure[usize::from(label)] += u16::from(edges.any_live(group) | exposed);
         }
     }
 
@@ -236,6 +232,19 @@ impl Tuned {
 }
 
 impl Edges {
+    /// Lost edges are full.
+    fn start(&mut self, loss: &[u8]) {
+        for (live, lost) in self.live.iter_mut().zip(loss) {
+            *live = 1 - lost;
+        }
+        self.live[usize::from(incidence::NO_EDGE)] = 0;
+    }
+
+    /// 1 where an edge of a group isn't full.
+    fn any_live(&self, group: &[u16; 4]) -> u8 {
+        group.iter().fold(0, |any, &edge| any | self.live[usize::from(edge)])
+    }
+
     /// Gives an edge a half-edge more, unless it is full.
     fn raise(&mut self, edge: u16, support: &mut [u8]) {
         let live = &mut self.live[usize::from(edge)];
