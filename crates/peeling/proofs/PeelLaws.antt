@@ -1,7 +1,7 @@
 -- Cutting the forest in falling edge number: what hangs at the link of an edge is odd, in what is left, exactly where the edge is in the
 -- correction.
 -- Assumes nothing.
-use Prim.Native.Nat.{ℕ, suc, _+_, _≤_, _<_}
+use Prim.Native.Nat.{ℕ, zero, suc, _+_, _≤_, _<_}
 use mathlib.Core.Path.{_≡_, refl, sym, ap, ap₂, _∙_}
 use mathlib.Core.Logic.{_≢_, ⊎-elim}
 use mathlib.Core.Bool.{Bool, true, false, _&&_, and-true, and-false, and-comm, and-assoc, false≢true}
@@ -9,8 +9,7 @@ use mathlib.Core.List.{List}
 use native.Mathlib.Decide.{ℕ-discrete, decLt}
 use native.Mathlib.Omega.{arith}
 use borrow.Author.Tests.{eq-eqb, ne-eqb, lt-ltb, le-ltb}
-use lib.ListN.{length, set}
-use lib.Seq.{getD-set-same, getD-set-other}
+use lib.ListN.{length}
 use lib.Dec.{eqb, ltb}
 use Rattle.model.specs.Sums.{Set, _⊕_, bit, oddUpTo, countUpTo}
 use Rattle.model.specs.Board.{Board, Inside, edges, firstEnd, secondEnd}
@@ -25,8 +24,9 @@ use Rattle.theory.proofs.Components.{edge-label}
 use Rattle.theory.proofs.Forests.{Within, forest-inside, forest-parted}
 use Rattle.union_find.specs.Trees.{at, under}
 use Rattle.peeling.specs.TreeFlips.{oddBelow, AllFlipped}
-use Rattle.peeling.specs.Links.{noVertex, HungBy, Link, unlinked, linked}
-use Rattle.peeling.specs.Peeling.{isCut, endsUnder, Cuts}
+use Rattle.peeling.specs.Links.{HungBy, place}
+use Rattle.peeling.specs.Peeling.{endsUnder, marked, Cuts, Clear}
+use Rattle.peeling.proofs.CutLaws.{marked-here, marked-other}
 
 -- the edges of D below k
 abbrev pub lower : ℕ → Set → Set
@@ -122,18 +122,21 @@ module _ (B : Board) (r : Inside B) (D : Set) where
           (λ q. ap₂ _⊕_ (ne-eqb _ _ (λ e. differ (e ∙ at-end q))) (eq-eqb _ _ (sym (at-end q))))
           (w .is-end)
 
--- The loop over the edges, in falling number
+-- The forest's edges, in falling number
 
--- the edges from k on are cut: D is written there, and what the edges below k are still to flip hangs in the trees
+-- The edges from k on are cut: D is written there, the bytes below k are still 0, and what the edges below k are still to flip hangs in the
+-- trees.
 pub record Peeling (B : Board) (D : Set) (p : List ℕ) (k : ℕ) (below : List Bool) (written : List ℕ) (count : ℕ) : Type 0 where
   pub parity : (z : ℕ) → z < B .vertices → at p z ≢ z → oddBelow below z ≡ leftIn B D (under p z) k
   pub bits : (e : ℕ) → k ≤ e → e < edges B → at written e ≡ bit (D e)
+  pub clear : Clear k written
   pub counted : count + countUpTo k D ≡ countUpTo (edges B) D
 
-pub peeling-start : (B : Board) (D S : Set) (p : List ℕ) (clear below : List Bool) (written : List ℕ) → HasOddEnds B D S
-    → ((z : ℕ) → oddBelow clear z ≡ false) → AllFlipped p (B .vertices) S clear below → Peeling B D p (edges B) below written 0
+pub peeling-start : (B : Board) (D S : Set) (p : List ℕ) (fresh below : List Bool) (written : List ℕ) → HasOddEnds B D S
+    → ((z : ℕ) → oddBelow fresh z ≡ false) → AllFlipped p (B .vertices) S fresh below → Clear (edges B) written
+    → Peeling B D p (edges B) below written 0
 unfolding leftIn
-peeling-start B D S p clear below written has none all =
+peeling-start B D S p fresh below written has none all zeros =
     record {
       parity = λ z h top.
           all .each z top
@@ -143,38 +146,69 @@ peeling-start B D S p clear below written has none all =
           ap (λ b. b && under p z u)
           (sym (has .at u l) ∙ odd-end-cong B D (lower (edges B) D) (λ e i. rw (lt-ltb e (edges B) i)) u)));
       bits = λ e from h. absurd (omega arith);
+      clear = zeros;
       counted = omega arith;
     }
 
-module _ (B : Board) (r : Inside B) (F D : Set) (sub : Within B D (forest B F)) where
-  -- an edge is cut exactly where D has it
-  cut-is : (links : List ℕ) {p : List ℕ} {k : ℕ} {below : List Bool} {written : List ℕ} {count : ℕ} → k < edges B
-      → Link B F p k (at links k) → Peeling B D p (suc k) below written count → isCut links below k ≡ D k
-  cut-is links {k = k} h (unlinked out none) w =
-      rw (eq-eqb _ _ none) (sym (not-true-false (D k) (λ q. false≢true (sym out ∙ sub .holds k h q))))
-  cut-is links {p} {k} h (linked y) w =
-      rw (ne-eqb (at links k) noVertex (λ q. omega (arith, y .vertex, r .vertex-limit)))
-      (w .parity (at links k) (y .vertex) (y .not-root) ∙ link-odd B r D F sub p k (at links k) h y)
+-- Of n edges of the forest that are left, the last is the next that is cut. With none left, all edges are done.
+pub data Reached (B : Board) (F D : Set) (p : List ℕ) (below : List Bool) (written : List ℕ) (count n : ℕ) : Type 0 where
+  last : (e : ℕ) → e < edges B → forest B F e ≡ true → n ≡ place B F e + 1 → Peeling B D p (suc e) below written count
+      → Reached B F D p below written count n
+  done : n ≡ 0 → Peeling B D p 0 below written count → Reached B F D p below written count n
 
-  pub peeling-next : {p links : List ℕ} {k : ℕ} {below : List Bool} {written : List ℕ} {count : ℕ} {c : ℕ} {below′ : List Bool}
-      → k < edges B → length written ≡ edges B → Link B F p k (at links k) → Cuts (B .ends) p links below k c below′
-      → Peeling B D p (suc k) below written count → Peeling B D p k below′ (set written k c) (count + c)
+module _ (B : Board) (r : Inside B) (F D : Set) (sub : Within B D (forest B F)) {p : List ℕ} where
+  -- an edge that is not in the forest is not in D, and is passed
+  peeling-passed : {k : ℕ} {below : List Bool} {written : List ℕ} {count : ℕ} → k < edges B → forest B F k ≡ false
+      → Peeling B D p (suc k) below written count → Peeling B D p k below written count
   unfolding countUpTo
-  peeling-next {p} {links} {k} {below} {written} {count} {c} {below′} h long link cuts w =
+  peeling-passed {k} {below} {written} {count} h out w =
+      record {
+        parity = λ z i top. w .parity z i top ∙ left-next B r D (under p z) k h ∙ rw is (xor-false (leftIn B D (under p z) k));
+        bits = λ e from i. elim (ℕ-discrete e k) [
+          | yes q ↦ w .clear .each e (omega arith) ∙ sym (ap bit (ap D q ∙ is))
+          | no q ↦ w .bits e (omega arith) i
+        ];
+        clear = record { each = λ e l. w .clear .each e (omega arith) };
+        counted = omega (arith, w .counted, ap bit is);
+      }
+    where
+      is : D k ≡ false
+      is = not-true-false (D k) (λ q. false≢true (sym out ∙ sub .holds k h q))
+
+  -- an edge of the forest is cut exactly where D has it
+  pub peeling-next : {k link : ℕ} {below : List Bool} {written : List ℕ} {count : ℕ} {c : ℕ} {below′ : List Bool} {written′ : List ℕ}
+      → k < edges B → length written ≡ edges B → HungBy B F p k link → Cuts (B .ends) p below written k link c below′ written′
+      → Peeling B D p (suc k) below written count → Peeling B D p k below′ written′ (count + c)
+  unfolding countUpTo
+  peeling-next {k} {link} {below} {written} {count} {c} {below′} {written′} h long hung cuts w =
       record {
         parity = λ z i top.
             cuts .each z top
             ∙ ap₂ (λ a b. a ⊕ (b && endsUnder (B .ends) p k z)) (w .parity z i top ∙ left-next B r D (under p z) k h) is
             ∙ xor-twice (leftIn B D (under p z) k) (D k && endsUnder (B .ends) p k z);
         bits = λ e from i. elim (ℕ-discrete e k) [
-          | yes q ↦ rw q (getD-set-same written k c 0 (omega arith) ∙ byte)
-          | no q ↦ getD-set-other written k e c 0 q ∙ w .bits e (omega arith) i
+          | yes q ↦ rw (q, bytes) (marked-here (D k) k written (omega arith) (w .clear .each k (omega arith)))
+          | no q ↦ rw bytes (marked-other (D k) k e written q ∙ w .bits e (omega arith) i)
         ];
-        counted = omega (arith, w .counted, byte);
+        clear = record { each = λ e l. rw bytes (marked-other (D k) k e written (λ q. omega arith) ∙ w .clear .each e (omega arith)) };
+        counted = omega (arith, w .counted, cuts .answer, ap bit is);
       }
     where
-      is : isCut links below k ≡ D k
-      is = cut-is links h link w
+      is : oddBelow below link ≡ D k
+      is = w .parity link (hung .vertex) (hung .not-root) ∙ link-odd B r D F sub p k link h hung
 
-      byte : c ≡ bit (D k)
-      byte = cuts .answer ∙ ap bit is
+      bytes : written′ ≡ marked (D k) k written
+      bytes = cuts .bytes-are ∙ ap (λ t. marked t k written) is
+
+  -- from the edges from k on, over those that are not in the forest
+  pub reach : (k n : ℕ) {below : List Bool} {written : List ℕ} {count : ℕ} → k ≤ edges B → n ≡ place B F k
+      → Peeling B D p k below written count → Reached B F D p below written count n
+  unfolding countUpTo
+  reach zero n h left w = done left w
+  reach (suc k) n {below} {written} {count} h left w = go (forest B F k) refl (λ left w. reach k n (omega arith) left w)
+    where
+      go : (t : Bool) → forest B F k ≡ t
+          → (n ≡ place B F k → Peeling B D p k below written count → Reached B F D p below written count n)
+          → Reached B F D p below written count n
+      go true q further = last k (omega arith) q (left ∙ ap (λ b. place B F k + bit b) q) w
+      go false q further = further (left ∙ ap (λ b. place B F k + bit b) q ∙ omega arith) (peeling-passed (omega arith) q w)

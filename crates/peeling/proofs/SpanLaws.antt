@@ -1,8 +1,9 @@
--- The links of the forest, edge by edge: what one more edge adds, and that it leaves the links before it. Assumes nothing.
+-- The trees of the forest and the list of its edges, edge by edge: what one more edge adds, and that it leaves what is there. Assumes
+-- nothing.
 use Prim.Native.Nat.{ℕ, _+_, _≤_, _<_}
 use mathlib.Core.Path.{_≡_, refl, sym, ap, _∙_}
 use mathlib.Core.Logic.{_≢_, _⊎_, inl, inr, ⊎-elim}
-use mathlib.Core.Bool.{true, not}
+use mathlib.Core.Bool.{true, false, not, false≢true}
 use mathlib.Core.List.{List}
 use native.Mathlib.Nat.{le-of-eq, not-suc-le-zero}
 use native.Mathlib.Numerals.{add-one}
@@ -12,46 +13,115 @@ use borrow.Author.Tests.{eq-eqb, ne-eqb}
 use lib.ListN.{length, set, length-set, replicate, length-replicate}
 use lib.Seq.{getD-set-same, getD-set-other}
 use lib.Dec.{eqb}
-use Rattle.model.specs.Sums.{Set}
-use Rattle.model.specs.Board.{Board, EndsWithin, plain, firstEnd, secondEnd}
+use Rattle.model.specs.Sums.{Set, countUpTo}
+use Rattle.model.specs.Board.{Board, EndsWithin, plain, firstEnd, secondEnd, vertexLimit}
 use Rattle.model.specs.Components.{labelsUpTo}
 use Rattle.model.specs.Growth.{full}
 use Rattle.model.specs.Forest.{forest}
+use Rattle.model.proofs.SumLaws.{count-bound, count-none}
+use Rattle.model.proofs.CountLaws.{count-in, count-out, count-before, count-room, count-more}
 use Rattle.theory.proofs.Components.{labels-length}
 use Rattle.theory.proofs.Forests.{forest-is}
 use Rattle.union_find.specs.declared.Joined.{Joined}
-use Rattle.union_find.specs.declared.Joined.the-variants.{Hung, Already}
 use Rattle.union_find.specs.Trees.{at, rootOf, Trees, TwoRoots, Room, Alone, hung}
 use Rattle.union_find.specs.Joining.{Joins, sameRoot, Mirrors}
+use Rattle.union_find.proofs.Roots.{root-top, root-inside}
 use Rattle.union_find.proofs.Hanging.{hung-parent, other-parent}
 use Rattle.union_find.proofs.Fresh.{alone-trees}
 use Rattle.union_find.proofs.Subtrees.{under-top, under-hung}
 use Rattle.union_find.proofs.Unions.{Hung-is, hung-is, already-is, joins-trees}
 use Rattle.union_find.proofs.Labels.{mirrors-alone, mirrors-joined, mirrors-passed}
-use Rattle.peeling.specs.Links.{linkOf, Takes, passed, joined, HungBy, Link, unlinked, linked, SpanRoom, Spans}
+use Rattle.peeling.specs.Links.{Takes, appended, passed, HungBy, place, Stands, Listed, SpanRoom, Spans}
 
--- the trees mirror the labels by the edges of F below k, each of which has its link
-pub record SpansUpTo (B : Board) (F : Set) (p links : List ℕ) (k : ℕ) : Type 0 where
-  pub mirrors : Mirrors (B .vertices) p (labelsUpTo B F k)
-  pub each : (e : ℕ) → e < k → Link B F p e (at links e)
+-- How many vertices hang under another
+
+abbrev pub hangs : List ℕ → Set
+hangs p v = not (eqb (at p v) v)
+
+-- none, where each is alone
+alone-hangs : {n : ℕ} {p s : List ℕ} → Alone n p s → countUpTo n (hangs p) ≡ 0
+alone-hangs {n} {p} a = count-none n (hangs p) (λ v h. ap not (eq-eqb _ _ (a .own v h)))
+
+-- not all of them, where one has a root
+some-root : {n : ℕ} {p s : List ℕ} → Trees n p s → (v : ℕ) → v < n → countUpTo n (hangs p) < n
+some-root {n} {p} t v h =
+    count-room n (rootOf p v) (hangs p) (root-inside (t .climbs) v h) (ap not (eq-eqb _ _ (root-top (t .climbs) v h)))
+
+-- one more, where a root is hung
+hung-hangs : {n : ℕ} {p s : List ℕ} {x y : ℕ} → Trees n p s → TwoRoots n p x y
+    → countUpTo n (hangs (hung p x y)) ≡ countUpTo n (hangs p) + 1
+hung-hangs {n} {p} {x = x} {y} t w =
+    count-more n x (hangs p) (hangs (hung p x y)) (w .x-inside) (ap not (eq-eqb _ _ (w .x-root)))
+    (ap not (ne-eqb _ _ (λ q. w .apart (sym q ∙ hung-parent t w))))
+    (λ v q. ap (λ u. not (eqb u v)) (other-parent t w v q))
+    ∙ omega arith
+
+-- The list
 
 -- hanging a root leaves the links
-link-hung : {B : Board} {F : Set} {p s : List ℕ} {e z x y : ℕ} → Trees (B .vertices) p s → TwoRoots (B .vertices) p x y → Link B F p e z
-    → Link B F (hung p x y) e z
-link-hung t w (unlinked out none) = unlinked out none
-link-hung {p = p} {z = z} {x = x} t w (linked h) =
-    linked
-    (record {
+link-hung : {B : Board} {F : Set} {p s : List ℕ} {e z x y : ℕ} → Trees (B .vertices) p s → TwoRoots (B .vertices) p x y
+    → HungBy B F p e z → HungBy B F (hung p x y) e z
+link-hung {p = p} {z = z} {x = x} t w h =
+    record {
       in-forest = h .in-forest;
       vertex = h .vertex;
       not-root = λ q. h .not-root (sym (other-parent t w z other) ∙ q);
       end = h .end;
       is-end = h .is-end;
       below = λ u l. under-hung t w z (λ e. h .not-root (ap (at p) e ∙ w .y-root ∙ sym e)) u l ∙ h .below u l;
-    })
+    }
   where
     other : z ≢ x
     other e = h .not-root (ap (at p) e ∙ w .x-root ∙ sym e)
+
+module _ {B : Board} {F : Set} where
+  -- and so the list
+  listed-hung : {p s taken links : List ℕ} {n count x y : ℕ} → Trees (B .vertices) p s → TwoRoots (B .vertices) p x y
+      → Listed B F p taken links n count → Listed B F (hung p x y) taken links n count
+  listed-hung t w l =
+      record {
+        counted = l .counted;
+        each = λ e h q. record { edge = l .each e h q .edge; link = link-hung t w (l .each e h q .link) };
+      }
+
+  -- an edge that is not in the forest adds nothing
+  listed-passed : {p taken links : List ℕ} {n count : ℕ} → forest B F n ≡ false → Listed B F p taken links n count
+      → Listed B F p taken links (n + 1) count
+  listed-passed {n = n} out l =
+      record {
+        counted = l .counted ∙ sym (count-out n (forest B F) out);
+        each = λ e h q. elim (ℕ-discrete e n) [
+          | yes i ↦ absurd (false≢true (sym out ∙ ap (forest B F) (sym i) ∙ q))
+          | no i ↦ l .each e (omega arith) q
+        ];
+      }
+
+  -- an edge that is in it comes next, with its link
+  listed-next : {p taken links : List ℕ} {n count x : ℕ} → count < length taken → count < length links → HungBy B F p n x
+      → Listed B F p taken links n count → Listed B F p (set taken count n) (set links count x) (n + 1) (count + 1)
+  listed-next {p} {taken} {links} {n} {count} {x} room room′ w l =
+      record {
+        counted = omega (arith, l .counted, count-in n (forest B F) (w .in-forest));
+        each = λ e h q. elim (ℕ-discrete e n) [
+          | yes i ↦ rw i here
+          | no i ↦ before e (omega arith) q
+        ];
+      }
+    where
+      here : Stands B F p (set taken count n) (set links count x) n
+      here =
+          record {
+            edge = rw (sym (l .counted)) (getD-set-same taken count n 0 room);
+            link = rw (sym (l .counted), getD-set-same links count x 0 room′) w;
+          }
+
+      before : (e : ℕ) → e < n → forest B F e ≡ true → Stands B F p (set taken count n) (set links count x) e
+      before e h q =
+          let other : place B F e ≢ count = λ i. omega (arith, i, l .counted, count-before e n (forest B F) h q) in
+          record {
+            edge = getD-set-other taken count (place B F e) n 0 other ∙ l .each e h q .edge;
+            link = rw (getD-set-other links count (place B F e) x 0 other) (l .each e h q .link);
+          }
 
 -- Edge k comes to the edges below it
 
@@ -84,87 +154,113 @@ module _ (B : Board) (F : Set) (k : ℕ) {p s : List ℕ} (t : Trees (B .vertice
       side : (c : ℕ) × ((c ≡ firstEnd B k) ⊎ (c ≡ secondEnd B k)) × (x ≡ rootOf p c) × (c < B .vertices)
       side = ⊎-elim (λ e. (firstEnd B k, inl refl, e .0, ha)) (λ e. (secondEnd B k, inr refl, e .0, hb)) (w .of-ends)
 
-  -- its link, by the answer of joining its ends; the links before it stay
-  links-joined : F k ≡ true → {j : Joined} {p′ s′ : List ℕ} → Joins p s (firstEnd B k) (secondEnd B k) j p′ s′
-      → Link B F p′ k (linkOf j) × ((e x : ℕ) → Link B F p e x → Link B F p′ e x)
-  links-joined taken {j = Hung x y} i =
-      let w = hung-is t ha hb i in
-      rw (w .parents) (linked (link-new taken w), λ e x l. link-hung t (w .roots) l)
-  links-joined taken {j = Already z} i =
-      let w = already-is t ha hb i in
-      rw (w .parents) (unlinked (forest-apart taken ∙ ap not (eq-eqb _ _ (w .one-root))) refl, λ e x l. l)
-
--- what holds of each entry below k, and of one that is stored at k, holds of each below k + 1
-stored : (P : ℕ → ℕ → Type 0) (l : List ℕ) (k r : ℕ) → k < length l → P k r → ((e : ℕ) → e < k → P e (at l e)) → (e : ℕ) → e < k + 1
-    → P e (at (set l k r) e)
-stored P l k r h here before e less =
-    elim (ℕ-discrete e k) [
-      | yes q ↦ rw (q, getD-set-same l k r 0 h) here
-      | no q ↦ rw (getD-set-other l k e r 0 q) (before e (omega arith))
-    ]
-
 -- The loop over the edges
 
--- the edges below k are done
-pub record Spanning (vertices : ℕ) (ends support p size links : List ℕ) (k : ℕ) : Type 0 where
+-- the edges below k are done; each edge in the list hung one vertex
+pub record Spanning (vertices : ℕ) (ends support p size taken links : List ℕ) (k count : ℕ) : Type 0 where
   pub trees : Trees vertices p size
-  pub room : length support ≤ length links
-  pub below : SpansUpTo (plain vertices (length support) ends) (full support) p links k
+  pub mirrors : Mirrors vertices p (labelsUpTo (plain vertices (length support) ends) (full support) k)
+  pub listed : Listed (plain vertices (length support) ends) (full support) p taken links k count
+  pub hung-count : count ≡ countUpTo vertices (hangs p)
+  pub edge-room : vertices ≤ length taken
+  pub link-room : vertices ≤ length links
 
-pub spanning-start : {vertices k : ℕ} {ends support p size links : List ℕ} → k ≡ 0 → Alone vertices p size
-    → length support ≤ length links → Spanning vertices ends support p size links k
-spanning-start {vertices} {ends = ends} {support} none a room =
+-- the fresh sizes
+pub fresh-room : {vertices : ℕ} {ends support p taken links : List ℕ} (k : ℕ) → vertices ≤ k
+    → SpanRoom vertices ends support p taken links → Room vertices p (replicate k 0)
+fresh-room k h w =
+    record { limit = w .board .vertex-limit; parents = w .parents; sizes = rw (length-replicate {A = ℕ} k 0) h }
+
+pub spanning-start : {vertices k : ℕ} {ends support p₀ p size taken links : List ℕ} → k ≡ 0
+    → SpanRoom vertices ends support p₀ taken links → Alone vertices p size → Spanning vertices ends support p size taken links k 0
+unfolding countUpTo
+spanning-start {vertices} {ends = ends} {support} none room a =
     rw none
     (record {
       trees = alone-trees a;
-      room = room;
-      below = record {
-        mirrors = mirrors-alone (plain vertices (length support) ends) (full support) a;
-        each = λ e h. absurd (not-suc-le-zero h);
-      };
+      mirrors = mirrors-alone (plain vertices (length support) ends) (full support) a;
+      listed = record { counted = refl; each = λ e h. absurd (not-suc-le-zero h) };
+      hung-count = sym (alone-hangs a);
+      edge-room = room .edge-room;
+      link-room = room .link-room;
     })
 
-pub spanning-next : {vertices k k′ r : ℕ} {ends support p s links p′ s′ : List ℕ} → EndsWithin vertices (length support) ends
-    → Spanning vertices ends support p s links k → Takes ends support p s k r p′ s′ → k < length support → k′ ≡ k + 1
-    → Spanning vertices ends support p′ s′ (set links k r) k′
-spanning-next {vertices} {k} {r = r} {ends} {support} {p} {links = links} board w (passed out none same-p same-s) h next =
-    let B = plain vertices (length support) ends in
-    rw (next, same-p, same-s)
-    (record {
+module _ {vertices : ℕ} {ends support p s taken links : List ℕ} {k count : ℕ} (board : EndsWithin vertices (length support) ends)
+    (w : Spanning vertices ends support p s taken links k count) (h : k < length support) where
+  abbrev B : Board
+  B = plain vertices (length support) ends
+
+  -- fewer edges are in the list than there are vertices
+  list-room : count < vertices
+  list-room = omega (arith, w .hung-count, some-root (w .trees) _ (board .first-in-range k h))
+
+  pub take-room : count < vertexLimit
+  take-room = omega (arith, list-room, board .vertex-limit)
+
+  first : firstEnd B k < vertices
+  first = board .first-in-range k h
+
+  second : secondEnd B k < vertices
+  second = board .second-in-range k h
+
+  mirrors-next : full support k ≡ true → {j : Joined} {p′ s′ : List ℕ} → Joins p s (firstEnd B k) (secondEnd B k) j p′ s′
+      → Mirrors vertices p′ (labelsUpTo B (full support) (k + 1))
+  mirrors-next is-full i =
+      rw (add-one k)
+      (mirrors-joined B (full support) k is-full (w .mirrors) (w .trees) (le-of-eq (sym (labels-length B (full support) k))) first second i)
+
+  -- it is not full
+  pub spanning-passed : {k′ : ℕ} → full support k ≡ false → k′ ≡ k + 1 → Spanning vertices ends support p s taken links k′ count
+  spanning-passed out next =
+      rw next
+      (record {
+        trees = w .trees;
+        mirrors = rw (add-one k) (mirrors-passed B (full support) k out (w .mirrors));
+        listed = listed-passed (forest-is B (full support) k ∙ rw out) (w .listed);
+        hung-count = w .hung-count;
+        edge-room = w .edge-room;
+        link-room = w .link-room;
+      })
+
+  -- it is full and taken
+  pub spanning-next : {k′ r : ℕ} {p′ s′ taken′ links′ : List ℕ} → full support k ≡ true
+      → Takes ends p s taken links count k r p′ s′ taken′ links′ → k′ ≡ k + 1 → Spanning vertices ends support p′ s′ taken′ links′ k′ r
+  spanning-next is-full (appended x y i more edge link) next =
+      let t = hung-is (w .trees) first second i in
+      rw (next, more, edge, link)
+      (record {
+        trees = joins-trees (w .trees) first second i;
+        mirrors = mirrors-next is-full i;
+        listed =
+            rw (t .parents)
+            (listed-next (omega (arith, list-room, w .edge-room)) (omega (arith, list-room, w .link-room))
+            (link-new B (full support) k (w .trees) (w .mirrors) first second is-full t) (listed-hung (w .trees) (t .roots) (w .listed)));
+        hung-count = rw (t .parents) (omega (arith, w .hung-count, hung-hangs (w .trees) (t .roots)));
+        edge-room = rw (length-set taken count k) (w .edge-room);
+        link-room = rw (length-set links count (x .0)) (w .link-room);
+      })
+  spanning-next is-full (passed z i same edge link) next =
+      let t = already-is (w .trees) first second i in
+      rw (next, same, edge, link)
+      (record {
+        trees = joins-trees (w .trees) first second i;
+        mirrors = mirrors-next is-full i;
+        listed =
+            rw (t .parents)
+            (listed-passed
+            (forest-apart B (full support) k (w .trees) (w .mirrors) first second is-full ∙ ap not (eq-eqb _ _ (t .one-root)))
+            (w .listed));
+        hung-count = rw (t .parents) (w .hung-count);
+        edge-room = w .edge-room;
+        link-room = w .link-room;
+      })
+
+pub spanning-done : {vertices k count : ℕ} {ends support p size taken links : List ℕ} → EndsWithin vertices (length support) ends
+    → k ≡ length support → Spanning vertices ends support p size taken links k count → Spans vertices ends support count p taken links
+spanning-done {vertices} {p = p} {size} board all w =
+    record {
+      size = size;
       trees = w .trees;
-      room = rw (length-set links k r) (w .room);
-      below = record {
-        mirrors = rw (add-one k) (mirrors-passed B (full support) k out (w .below .mirrors));
-        each =
-            stored (Link B (full support) p) links k r (omega (arith, w .room))
-            (unlinked (forest-is B (full support) k ∙ rw out) none) (w .below .each);
-      };
-    })
-spanning-next {vertices} {k} {r = r} {ends} {support} {links = links} {p′} board w (joined is-full j i link) h next =
-    let B = plain vertices (length support) ends in
-    let ha = board .first-in-range k h in
-    let hb = board .second-in-range k h in
-    let long = le-of-eq (sym (labels-length B (full support) k)) in
-    let n = links-joined B (full support) k (w .trees) (w .below .mirrors) ha hb is-full i in
-    rw next
-    (record {
-      trees = joins-trees (w .trees) ha hb i;
-      room = rw (length-set links k r) (w .room);
-      below = record {
-        mirrors = rw (add-one k) (mirrors-joined B (full support) k is-full (w .below .mirrors) (w .trees) long ha hb i);
-        each =
-            stored (Link B (full support) p′) links k r (omega (arith, w .room))
-            (rw link (n .0)) (λ e l. n .1 e (at links e) (w .below .each e l));
-      };
-    })
-
-pub spanning-done : {vertices k : ℕ} {ends support p size links : List ℕ} → k ≡ length support
-    → Spanning vertices ends support p size links k → Spans vertices ends support p links
-spanning-done {size = size} all w =
-    record { size = size; trees = w .trees; each = λ e h. w .below .each e (omega (arith, all, h)) }
-
--- the fresh sizes
-pub fresh-room : {vertices : ℕ} {ends support p links : List ℕ} (k : ℕ) → vertices ≤ k → SpanRoom vertices ends support p links
-    → Room vertices p (replicate k 0)
-fresh-room k h w =
-    record { limit = w .board .vertex-limit; parents = w .parents; sizes = rw (length-replicate {A = ℕ} k 0) h }
+      listed = rw all at (w .listed);
+      limit = omega (arith, w .hung-count, count-bound vertices (hangs p), board .vertex-limit);
+    }

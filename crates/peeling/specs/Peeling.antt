@@ -4,41 +4,50 @@
 use Prim.Native.Nat.{ℕ, _+_, _*_, _<_}
 use mathlib.Core.Path.{_≡_}
 use mathlib.Core.Logic.{_≢_}
-use mathlib.Core.Bool.{Bool, false, not, _&&_}
+use mathlib.Core.Bool.{Bool, true, false, _&&_}
 use mathlib.Core.List.{List}
-use lib.ListN.{length, getD}
-use lib.Dec.{eqb}
+use lib.ListN.{length, getD, set}
 use Rattle.model.specs.Sums.{Set, _⊕_, bit, ones, bytes, countUpTo}
 use Rattle.model.specs.Board.{Board, EndsWithin, plain}
 use Rattle.model.specs.Growth.{full, oddlyLit, clusters}
 use Rattle.model.specs.Correction.{spanned}
 use Rattle.union_find.specs.Trees.{at, under}
 use Rattle.peeling.specs.TreeFlips.{oddBelow, AllFlippable}
-use Rattle.peeling.specs.Links.{noVertex}
 
--- edge e may be cut: its ends may flip, and its link, if it has one, is a vertex
-pub record Cuttable (ends parent links : List ℕ) (below : List Bool) (e : ℕ) : Type 0 where
+-- edge e of the forest may be cut: it has a byte, its ends may flip, and its link is a vertex
+pub record Cuttable (ends parent : List ℕ) (below : List Bool) (written : List ℕ) (e link : ℕ) : Type 0 where
   pub vertices : ℕ
-  pub edges : ℕ
-  pub board : EndsWithin vertices edges ends
-  pub edge : e < edges
+  pub board : EndsWithin vertices (length written) ends
+  pub edge : e < length written
   pub flippable : AllFlippable vertices parent below
-  pub link : at links e ≢ noVertex → at links e < vertices
-
--- edge e is cut for the correction: it has a link, and what hangs there is odd
-abbrev pub isCut : List ℕ → List Bool → ℕ → Bool
-isCut links below e = not (eqb (at links e) noVertex) && oddBelow below (at links e)
+  pub vertex : link < vertices
 
 -- an odd number of its two ends hangs at z or below
 abbrev pub endsUnder : List ℕ → List ℕ → ℕ → ℕ → Bool
 endsUnder ends parent e z = under parent z (getD ends (2 * e) 0) ⊕ under parent z (getD ends (2 * e + 1) 0)
 
--- then its two ends flip
-pub record Cuts (ends parent links : List ℕ) (below : List Bool) (e r : ℕ) (below′ : List Bool) : Type 0 where
-  pub answer : r ≡ bit (isCut links below e)
+-- its byte is 1 where it is in the correction, and otherwise stays
+abbrev pub marked : Bool → ℕ → List ℕ → List ℕ
+marked true e written = set written e 1
+marked false e written = written
+
+-- it is in the correction where what hangs at its link is odd, and then its two ends flip
+pub record Cuts (ends parent : List ℕ) (below : List Bool) (written : List ℕ) (e link r : ℕ) (below′ : List Bool) (written′ : List ℕ)
+    : Type 0 where
+  pub answer : r ≡ bit (oddBelow below link)
+  pub bytes-are : written′ ≡ marked (oddBelow below link) e written
   pub same-length : length below′ ≡ length below
   pub each : (z : ℕ) → at parent z ≢ z
-      → oddBelow below′ z ≡ oddBelow below z ⊕ (isCut links below e && endsUnder ends parent e z)
+      → oddBelow below′ z ≡ oddBelow below z ⊕ (oddBelow below link && endsUnder ends parent e z)
+
+-- the first n bytes are 0
+pub record Clear (n : ℕ) (written : List ℕ) : Type 0 where
+  pub each : (e : ℕ) → e < n → at written e ≡ 0
+
+-- every byte is 0
+pub record Clears (lent written : List ℕ) : Type 0 where
+  pub same-length : length written ≡ length lent
+  pub clear : Clear (length lent) written
 
 -- every cluster of the full edges holds an even number of the odd ends
 pub record EvenClusters (B : Board) (support oddEnds : List ℕ) : Type 0 where

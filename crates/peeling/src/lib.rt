@@ -4,37 +4,45 @@ mod forest;
 
 use model::ends::first_end;
 use model::ends::second_end;
-use model::limits::EDGES;
 use model::limits::VERTICES;
 use model::numbers::Edge;
+use model::numbers::Vertex;
 ghost use Rattle.model.specs.Lent.{before, after};
-ghost use Rattle.peeling.specs.Peeling.{Cuttable, Cuts, Peelable, Peels};
+ghost use Rattle.peeling.specs.Peeling.{Cuttable, Cuts, Clears, Peelable, Peels};
 
-// The edge is cut: 1 if it is in the correction, which is where an odd number of what is left hangs at its link and below. Then its ends
-// flip.
+// An edge of the forest is cut. It is in the correction where an odd number of what is left hangs at its link and below: then its byte is
+// 1, and its ends flip. The answer is 1 or 0, for the count.
 fn cut(
     ends: &[u16],
     parent: &[u16; VERTICES],
-    links: &[u16; EDGES],
     odd: &mut [bool; VERTICES],
+    correction: &mut [u8],
     edge: Edge,
-) -> u8
-    requires { ⌜ Cuttable (now ends) (now parent) (now links) (now odd) (edge .0) ⌝ }
-    ensures { λ r. ⌜ Cuts (before ends) (before parent) (before links) (before odd) (edge .0) r (after odd) ⌝ }
+    link: Vertex,
+) -> usize
+    requires { ⌜ Cuttable (now ends) (now parent) (now odd) (now correction) (edge .0) (link .0) ⌝ }
+    ensures { λ r.
+        ⌜ Cuts (before ends) (before parent) (before odd) (before correction) (edge .0) (link .0) r (after odd) (after correction) ⌝ }
 {
+    if !odd[link.0 as usize] {
+        return 0;
+    }
     let e = edge.0 as usize;
-    let link = links[e];
-    if link == forest::NONE {
-        return 0;
-    }
-    if !odd[link as usize] {
-        return 0;
-    }
+    correction[e] = 1;
     let a = first_end(ends, edge);
     let b = second_end(ends, edge);
     flips::flip(parent, odd, a);
     flips::flip(parent, odd, b);
     1
+}
+
+// Every byte is 0: no edge is in the correction yet.
+fn clear(correction: &mut [u8])
+    ensures { λ r. ⌜ Clears (before correction) (after correction) ⌝ }
+{
+    for e in 0..correction.len() {
+        correction[e] = 0;
+    }
 }
 
 // The correction of the full edges for odd ends, those with a 1 in `lit`, of which every cluster holds an even number: a byte for each
@@ -51,18 +59,20 @@ pub fn peel(
     ensures { λ r. ⌜ Peels vertices (before ends) (before support) (before lit) r (after correction) ⌝ }
 {
     let mut parent = [0u16; VERTICES];
-    let mut links = [0u16; EDGES];
-    forest::span(vertices, ends, support, &mut parent, &mut links);
+    let mut taken = [0u16; VERTICES];
+    let mut links = [0u16; VERTICES];
+    let listed = forest::span(vertices, ends, support, &mut parent, &mut taken, &mut links);
     let mut odd = [false; VERTICES];
     flips::flip_ends(lit, &parent, &mut odd);
-    let mut e = support.len();
+    clear(correction);
+    let mut k = listed;
     let mut count = 0;
-    while 0 < e {
-        e -= 1;
-        let number = e as u16;
-        let byte = cut(ends, &parent, &links, &mut odd, Edge(number));
-        correction[e] = byte;
-        count += byte as usize;
+    while 0 < k {
+        k -= 1;
+        let number = taken[k];
+        let link = links[k];
+        let edge = Edge(number);
+        count += cut(ends, &parent, &mut odd, correction, edge, Vertex(link));
     }
     count
 }

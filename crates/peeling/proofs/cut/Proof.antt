@@ -1,36 +1,25 @@
--- `peeling::cut` meets its contract, in each of its three cases. Assumes nothing.
-use native.Mathlib.Omega.{arith}
+-- `peeling::cut` meets its contract, in each of its two cases. Assumes nothing.
 use borrow.Author.Needs.{needs}
 use borrow.Author.Tests.{not-true, not-false}
 use Rattle.peeling.proofs.FlipLaws.{all-flippable, still-flippable}
-use Rattle.peeling.proofs.CutLaws.{cut-none, cut-even, cut-odd}
+use Rattle.peeling.proofs.CutLaws.{cut-even, cut-odd}
 use Rattle.peeling.proofs.cut.Statement.{statement}
 use Rattle.peeling.proofs.cut.Tie as tie
+
+cast-if1 : tie.Need-cast-if1
+cast-if1 c = search needs
+
+element-copy-out-if1 : tie.Need-element-copy-out-if1
+element-copy-out-if1 c = search needs
+
+returns : tie.Need-returns
+returns c = cut-even (not-true _ (c .if1 .taken))
 
 cast-e : tie.Need-cast-e
 cast-e c = search needs
 
-mul-link : tie.Need-mul-link
-mul-link c = search needs
-
-element-copy-out-link : tie.Need-element-copy-out-link
-element-copy-out-link c = search needs
-
-returns : tie.Need-returns
-returns c = cut-none (c .if1 .taken)
-
-cast-if2 : tie.Need-cast-if2
-cast-if2 c =
-    let pre = c .before .before .before .before .pre in
-    record { fits = omega (arith, pre .link (c .if1 .left), pre .flippable .climbs .limit) }
-
-element-copy-out-if2 : tie.Need-element-copy-out-if2
-element-copy-out-if2 c =
-    let pre = c .before .before .before .before .pre in
-    omega (arith, pre .link (c .if1 .left), pre .flippable .climbs .limit)
-
-returns-2 : tie.Need-returns-2
-returns-2 c = cut-even (c .before .before .if1 .left) (not-true _ (c .if2 .taken))
+slice-write-correction : tie.Need-slice-write-correction
+slice-write-correction c = search needs
 
 first-end-requires : tie.Need-first-end-requires
 first-end-requires c κs = search needs
@@ -52,13 +41,16 @@ flip-requires-2 c κs =
     all-flippable (still-flippable (pre .flippable) (flipped .flip .ensures .same-length)) _
     (rw (second .second-end .ensures) (pre .board .second-in-range _ (pre .edge)))
 
-returns-3 : tie.Need-returns-3
-returns-3 c =
+same-length : tie.Need-same-length
+same-length c = search needs
+
+returns-2 : tie.Need-returns-2
+returns-2 c =
     let flipped = c .before .before in
     let second = flipped .before .before in
     let first = second .before in
-    let odd = first .before in
-    cut-odd (odd .before .before .if1 .left) (not-false _ (odd .if2 .left))
+    let odd = first .before .before in
+    cut-odd (not-false _ (odd .if1 .left))
     (rw (first .first-end .ensures) at (flipped .flip .ensures))
     (rw (second .second-end .ensures) at (c .flip2 .ensures))
 
@@ -66,15 +58,14 @@ pub cut-spec : {M : Type 1} → statement M
 cut-spec =
     tie.close
     (tie.spec
-    cast-e
-    mul-link
-    element-copy-out-link
+    cast-if1
+    element-copy-out-if1
     returns
-    cast-if2
-    element-copy-out-if2
-    returns-2
+    cast-e
+    slice-write-correction
     first-end-requires
     second-end-requires
     flip-requires
     flip-requires-2
-    returns-3)
+    same-length
+    returns-2)

@@ -1,18 +1,20 @@
--- `peeling::forest::span` meets its contract. The loop's invariant: the edges passed have their links. Assumes nothing.
+-- `peeling::forest::span` meets its contract. The loop's invariant: the edges passed that are in the forest are listed. Assumes nothing.
 use Prim.Native.Nat.{_-_, _≤_}
+use mathlib.Core.Path.{sym, _∙_}
+use mathlib.Core.Logic.{inl, inr}
 use native.Mathlib.Omega.{arith}
 use borrow.Author.Needs.{needs}
 use Rattle.model.specs.Board.{vertexLimit}
-use Rattle.peeling.proofs.SpanLaws.{Spanning, spanning-start, spanning-next, spanning-done, fresh-room}
+use Rattle.peeling.proofs.SpanLaws.{Spanning, fresh-room, spanning-start, take-room, spanning-passed, spanning-next, spanning-done}
 use Rattle.peeling.proofs.forest.span.Statement.{statement}
 use Rattle.peeling.proofs.forest.span.Tie as tie
 
 abbrev Inv-loop : tie.InvT-loop
-Inv-loop vertices ends support parent₀ links₀ size₀ edges left₀ parent links size left =
-    (left ≤ edges) × Spanning vertices ends support parent size links (edges - left)
+Inv-loop vertices ends support parent₀ taken₀ links₀ size₀ edges count₀ left₀ parent taken links size count left =
+    (left ≤ edges) × Spanning vertices ends support parent size taken links (edges - left) count
 
 abbrev μ-loop : tie.MeasureT-loop
-μ-loop vertices ends support parent₀ links₀ size₀ edges left₀ parent links size left = left
+μ-loop vertices ends support parent₀ taken₀ links₀ size₀ edges count₀ left₀ parent taken links size count left = left
 
 alone-requires : tie.Need-alone-requires Inv-loop μ-loop
 alone-requires c κs = let pre = c .before .before .before .before .pre in fresh-room vertexLimit (pre .board .vertex-limit) pre
@@ -20,30 +22,32 @@ alone-requires c κs = let pre = c .before .before .before .before .pre in fresh
 loop-holds : tie.Need-loop-holds Inv-loop μ-loop
 loop-holds c =
     let start = c .before .before .before .before .before in
-    (search needs, spanning-start (omega arith) (c .alone .ensures) (start .pre .room))
+    (search needs, spanning-start (omega arith) (start .pre) (c .alone .ensures))
 
 sub-e : tie.Need-sub-e Inv-loop μ-loop
 sub-e c = search needs
+
+shared-slice-read-t19 : tie.Need-shared-slice-read-t19 Inv-loop μ-loop
+shared-slice-read-t19 c = search needs
+
+is-full-requires : tie.Need-is-full-requires Inv-loop μ-loop
+is-full-requires c κs = search needs
 
 cast-number : tie.Need-cast-number Inv-loop μ-loop
 cast-number c = search needs
 
 take-requires : tie.Need-take-requires Inv-loop μ-loop
 take-requires c κs =
-    let turn = c .before .before in
+    let turn = c .before .before .before .before .before .before .before in
     let start = turn .before .before .before .before .before .before .before in
     record {
       vertices = start .args .vertices;
+      edges = _;
       board = start .pre .board;
-      trees = turn .before .loop .inv .1 .trees;
       edge = omega (arith, turn .loop-test .taken);
+      trees = turn .before .loop .inv .1 .trees;
+      room = take-room (start .pre .board) (turn .before .loop .inv .1) (omega (arith, turn .loop-test .taken));
     }
-
-mul-links : tie.Need-mul-links Inv-loop μ-loop
-mul-links c = search needs
-
-element-write-links : tie.Need-element-write-links Inv-loop μ-loop
-element-write-links c = search needs
 
 sub-left : tie.Need-sub-left Inv-loop μ-loop
 sub-left c = search needs
@@ -53,14 +57,25 @@ loop-less c = search needs
 
 loop-again : tie.Need-loop-again Inv-loop μ-loop
 loop-again c =
-    let turn = c .before .before .before in
-    let start = turn .before .before .before .before .before .before .before in (
-      search needs,
-      spanning-next (start .pre .board) (turn .before .loop .inv .1) (c .take .ensures) (omega arith) (omega arith),
-    )
+    let tested = c .before in
+    let turn = tested .before .before in
+    let start = turn .before .before .before .before .before .before .before in
+    let i = turn .before .loop .inv .1 in
+    elim (c .if1 .came) [
+      | inl w ↦ rw (w .6, w .7, w .8, w .9, w .10) (
+        search needs,
+        spanning-next (start .pre .board) i (omega arith) (sym (tested .is-full .ensures) ∙ w .0 .taken) (w .5 .ensures) (omega arith),
+      )
+      | inr w ↦ rw (w .1, w .2, w .3, w .4, w .5) (
+        search needs,
+        spanning-passed (start .pre .board) i (omega arith) (sym (tested .is-full .ensures) ∙ w .0 .left) (omega arith),
+      )
+    ]
 
 returns : tie.Need-returns Inv-loop μ-loop
-returns c = spanning-done (omega arith) (c .before .loop .inv .1)
+returns c =
+    let start = c .before .before .before .before .before .before .before in
+    spanning-done (start .pre .board) (omega arith) (c .before .loop .inv .1)
 
 pub span-spec : {M : Type 1} → statement M
 span-spec =
@@ -71,10 +86,10 @@ span-spec =
     alone-requires
     loop-holds
     sub-e
+    shared-slice-read-t19
+    is-full-requires
     cast-number
     take-requires
-    mul-links
-    element-write-links
     sub-left
     loop-less
     loop-again

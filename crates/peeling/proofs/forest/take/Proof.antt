@@ -1,22 +1,9 @@
--- `peeling::forest::take` meets its contract, in each of its three cases. Assumes nothing.
-use mathlib.Core.Path.{refl, sym, ap, _∙_}
+-- `peeling::forest::take` meets its contract, in each of its two cases. Assumes nothing.
+use mathlib.Core.Path.{refl}
 use borrow.Author.Needs.{needs}
-use borrow.Author.Tests.{not-true, not-false}
-use Rattle.peeling.specs.Links.{linkOf, passed, joined}
+use Rattle.peeling.specs.Links.{appended, passed}
 use Rattle.peeling.proofs.forest.take.Statement.{statement}
 use Rattle.peeling.proofs.forest.take.Tie as tie
-
-cast-e : tie.Need-cast-e
-cast-e c = search needs
-
-shared-slice-read-t12 : tie.Need-shared-slice-read-t12
-shared-slice-read-t12 c = search needs
-
-is-full-requires : tie.Need-is-full-requires
-is-full-requires c κs = search needs
-
-returns : tie.Need-returns
-returns c = passed (sym (c .before .is-full .ensures) ∙ not-true _ (c .if1 .taken)) refl refl refl
 
 first-end-requires : tie.Need-first-end-requires
 first-end-requires c κs = search needs
@@ -24,12 +11,14 @@ first-end-requires c κs = search needs
 second-end-requires : tie.Need-second-end-requires
 second-end-requires c κs = search needs
 
+add-next : tie.Need-add-next
+add-next c = search needs
+
 join-requires : tie.Need-join-requires
 join-requires c κs =
     let second = c .before .before in
     let first = second .before in
-    let tested = first .before .before in
-    let pre = tested .before .before .before .before .before .pre in
+    let pre = first .before .before .pre in
     record {
       count = pre .vertices;
       trees = pre .trees;
@@ -40,39 +29,52 @@ join-requires c κs =
 enum-known-child : tie.Need-enum-known-child
 enum-known-child c = search needs
 
+mul-taken : tie.Need-mul-taken
+mul-taken c = search needs
+
+element-write-taken : tie.Need-element-write-taken
+element-write-taken c = search needs
+
+mul-links : tie.Need-mul-links
+mul-links c = search needs
+
+element-write-links : tie.Need-element-write-links
+element-write-links c = search needs
+
 enum-told : tie.Need-enum-told
 enum-told c = search needs
 
-returns-2 : tie.Need-returns-2
-returns-2 c =
+returns : tie.Need-returns
+returns c =
     let met = c .before .before .before in
     let second = met .before .before .before in
     let first = second .before in
-    let full = first .before in
-    joined (sym (full .before .is-full .ensures) ∙ not-false _ (full .if1 .left)) (met .join .result)
-    (rw (first .first-end .ensures, second .second-end .ensures) at (met .join .ensures)) (sym (ap linkOf (c .before .child .given .1)))
+    appended _ _
+    (rw (first .first-end .ensures, second .second-end .ensures, c .before .child .given .1) at (met .join .ensures))
+    refl refl refl
 
-returns-3 : tie.Need-returns-3
-returns-3 c =
+returns-2 : tie.Need-returns-2
+returns-2 c =
     let met = c .before .before in
     let second = met .before .before .before in
     let first = second .before in
-    let full = first .before in
-    joined (sym (full .before .is-full .ensures) ∙ not-false _ (full .if1 .left)) (met .join .result)
-    (rw (first .first-end .ensures, second .second-end .ensures) at (met .join .ensures)) (sym (ap linkOf (c .enum-told .given .1)))
+    passed _
+    (rw (first .first-end .ensures, second .second-end .ensures, c .enum-told .given .1) at (met .join .ensures))
+    refl refl refl
 
 pub take-spec : {M : Type 1} → statement M
 take-spec =
     tie.close
     (tie.spec
-    cast-e
-    shared-slice-read-t12
-    is-full-requires
-    returns
     first-end-requires
     second-end-requires
+    add-next
     join-requires
     enum-known-child
+    mul-taken
+    element-write-taken
+    mul-links
+    element-write-links
     enum-told
-    returns-2
-    returns-3)
+    returns
+    returns-2)
