@@ -7,7 +7,7 @@ use mathlib.Core.List.{List}
 use native.Mathlib.Decide.{ℕ-discrete}
 use native.Mathlib.Omega.{arith}
 use borrow.Author.Tests.{ltb-true}
-use lib.ListN.{length, getD, replicate, length-replicate}
+use lib.ListN.{length, getD, length-replicate}
 use Rattle.model.specs.Sums.{Set, bit}
 use Rattle.model.specs.Board.{Board, edgeLimit, firstEnd, secondEnd, unmarked, plain}
 use Rattle.model.specs.Growth.{full, clusters, swell}
@@ -32,7 +32,7 @@ use Rattle.decoder.proofs.RingLaws.{rings-fewer}
 use Rattle.decoder.proofs.Figuring.{beside, figured-sized, sized-figured}
 use Rattle.decoder.proofs.Fusing.{fuse-none}
 
-module _ (b : Book) (ends latest earlier : List ℕ) (r : Growing) (s x ring : List ℕ) (g : Growable b ends latest earlier r s x ring) where
+module _ (b : Book) (ends latest earlier : List ℕ) (r : Growing) (s x ring lent : List ℕ) (g : Growable b ends latest earlier r s x ring lent) where
   abbrev B : Board
   B = plain (b .vertices) (length s) ends
 
@@ -65,8 +65,7 @@ module _ (b : Book) (ends latest earlier : List ℕ) (r : Growing) (s x ring : L
         )
   ]
 
-  -- no edge is listed yet
-  abbrev pub raisable : Raisable latest earlier (b .figure) r x ring s (replicate edgeLimit 0)
+  abbrev pub raisable : Raisable latest earlier (b .figure) r x ring s lent
   raisable =
       record {
         vertices = b .vertices;
@@ -76,7 +75,7 @@ module _ (b : Book) (ends latest earlier : List ℕ) (r : Growing) (s x ring : L
         lent = g .lent;
         lists = g .lists;
         supports = g .supports;
-        room = length-replicate {A = ℕ} edgeLimit 0;
+        room = g .room;
         counts = g .counts;
         lows = g .book .good .lows;
         rings = g .rings;
@@ -87,7 +86,7 @@ module _ (b : Book) (ends latest earlier : List ℕ) (r : Growing) (s x ring : L
       }
 
   module _ (count : ℕ) (ring₁ s′ filled : List ℕ)
-      (t : Raises latest earlier (b .figure) r x ring s (replicate edgeLimit 0) count ring₁ s′ filled) where
+      (t : Raises latest earlier (b .figure) r x ring s lent count ring₁ s′ filled) where
     pub raised : Raised s (endsOf ends R) s′ filled count
     raised = t .each raisable .raised
 
@@ -184,7 +183,7 @@ module _ (b : Book) (ends latest earlier : List ℕ) (r : Growing) (s x ring : L
       -- the full edges are those before and the listed ones
       pub grows : (now : Book) (ring′ : List ℕ) → FusesListed shutBook ends filled count now
           → Rings (now .vertices) (now .parent) (now .low) x′ ring′
-          → Grows b ends r s (record { book = now; filled = count }) s′ x′ ring′
+          → Grows b ends r s (record { book = now; filled = count }) s′ x′ ring′ filled
       unfolding clusters
       grows now ring′ f rings =
           record {
@@ -193,6 +192,7 @@ module _ (b : Book) (ends latest earlier : List ℕ) (r : Growing) (s x ring : L
             counts = counts-after (g .opened) (g .lit) (g .book) x′ figure shut;
             rings = rings;
             filled = raised .count-is;
+            room = raised .room;
           }
         where
           book-after : (opened : List ℕ) (S : Set) → TrueBook (unmarked (b .vertices) (length s) ends opened) S s b

@@ -8,7 +8,7 @@ use native.Mathlib.Decide.{ℕ-discrete}
 use native.Mathlib.Nat.{le-antisymm, not-suc-le-zero}
 use native.Mathlib.Omega.{arith}
 use borrow.Author.Tests.{eqb-true, eqb-false, eq-eqb}
-use lib.ListN.{set, replicate, length-set, length-replicate}
+use lib.ListN.{length, set, length-set}
 use lib.Seq.{getD-set-same, getD-set-other}
 use Rattle.model.specs.Board.{vertexLimit}
 use Rattle.model.proofs.SumLaws.{below-suc}
@@ -40,8 +40,8 @@ single v a = elim (ℕ-discrete v a) [
   | no q ↦ omega (arith, times-other v a [] q, times-none v)
 ]
 
-pub lone-none : (n : ℕ) → n ≡ vertexLimit → LoneRings 0 (replicate n 0)
-lone-none n q = record { long = length-replicate n 0 ∙ q; each = λ v h. absurd (not-suc-le-zero h) }
+pub lone-none : (ring : List ℕ) → length ring ≡ vertexLimit → LoneRings 0 ring
+lone-none ring long = record { long = long; each = λ v h. absurd (not-suc-le-zero h) }
 
 pub lone-next : (k : ℕ) (ring : List ℕ) → k < vertexLimit → LoneRings k ring → LoneRings (suc k) (set ring k k)
 lone-next k ring h w =

@@ -172,14 +172,16 @@ module _ (x : Growth) (n : ℕ) (ends opened syndrome loss s₀ : List ℕ) (w :
         book-there : TrueBook (unmarked (b .vertices) (length s) ends opened) S s b
         book-there = subst₂ (λ i j. TrueBook (unmarked i j ends opened) S s b) (sym (run .book .vertices)) (sym (run .long)) (run .book)
 
-        pub growable : (latest earlier : List ℕ) → EndLists ends latest earlier → Growable b ends latest earlier r s counts ring
-        growable latest earlier lists =
+        pub growable : (latest earlier filled : List ℕ) → EndLists ends latest earlier → length filled ≡ edgeLimit
+            → Growable b ends latest earlier r s counts ring filled
+        growable latest earlier filled lists room =
             record {
               lent = subst₂ (λ i j. EndsWithin i j ends) (sym (run .book .vertices)) (sym (run .long)) (w .lent);
               lists = lists;
               ordered = follows .ordered;
               inside = omega (arith, follows .inside, run .book .vertices);
               supports = supports-here;
+              room = room;
               counts = subst (λ k. Exposures k ends (full s) counts) (sym (run .long)) (run .ends-left);
               rings = run .rings;
               opened = opened;
@@ -203,7 +205,7 @@ module _ (x : Growth) (n : ℕ) (ends opened syndrome loss s₀ : List ℕ) (w :
             ap (λ a. not (ltb a (r .from)) && (ltb a (r .to) && oddFigure (b .figure) a)) (sym (labelled v h))
             ∙ follows .grow (named .at) (named .is) v h
 
-        module _ (made : Grown) (s′ counts′ ring′ : List ℕ) (grows : Grows b ends r s made s′ counts′ ring′) where
+        module _ (made : Grown) (s′ counts′ ring′ filled′ : List ℕ) (grows : Grows b ends r s made s′ counts′ ring′ filled′) where
           swelled : s′ ≡ swell B s (named .at)
           swelled =
               grows .supports

@@ -6,7 +6,7 @@ use mathlib.Core.Bool.{Bool, not, _&&_, _||_}
 use mathlib.Core.List.{List}
 use lib.ListN.{length, getD}
 use Rattle.model.specs.Sums.{Set, countUpTo}
-use Rattle.model.specs.Board.{Board, vertexLimit, unmarked, plain, EndsWithin}
+use Rattle.model.specs.Board.{Board, vertexLimit, edgeLimit, unmarked, plain, EndsWithin}
 use Rattle.model.specs.Components.{labels}
 use Rattle.model.specs.Growth.{full, clusters, swell}
 use Rattle.model.specs.declared.numbers.Vertex.{Vertex}
@@ -121,12 +121,13 @@ pub record FusesListed (b : Book) (ends filled : List ℕ) (k : ℕ) (b′ : Boo
   pub true-still : KeepsTrue b b′
 
 -- the book is that of the supports, with the rings of its clusters; the counts are theirs; what grows is named
-pub record Growable (b : Book) (ends latest earlier : List ℕ) (r : Growing) (s x ring : List ℕ) : Type 0 where
+pub record Growable (b : Book) (ends latest earlier : List ℕ) (r : Growing) (s x ring filled : List ℕ) : Type 0 where
   pub lent : EndsWithin (b .vertices) (length s) ends
   pub lists : EndLists ends latest earlier
   pub ordered : r .from ≤ r .to
   pub inside : r .to ≤ b .vertices
   pub supports : Supports s
+  pub room : length filled ≡ edgeLimit
   pub counts : Exposures (length s) ends (full s) x
   pub rings : Rings (b .vertices) (b .parent) (b .low) x ring
   pub opened : List ℕ
@@ -135,7 +136,7 @@ pub record Growable (b : Book) (ends latest earlier : List ℕ) (r : Growing) (s
 
 -- document 01's step 4: the supports after the clusters have grown, the book of these supports, whichever vertices are open or lit, with the
 -- rings of its clusters, and how many edges became full
-pub record Grows (b : Book) (ends : List ℕ) (r : Growing) (s : List ℕ) (g : Grown) (s′ x′ ring′ : List ℕ) : Type 0 where
+pub record Grows (b : Book) (ends : List ℕ) (r : Growing) (s : List ℕ) (g : Grown) (s′ x′ ring′ filled′ : List ℕ) : Type 0 where
   pub supports :
       s′ ≡ swell (plain (b .vertices) (length s) ends) s (growers (nameOf (b .parent) (b .low)) (b .figure) (r .from) (r .to))
   pub book :
@@ -144,3 +145,4 @@ pub record Grows (b : Book) (ends : List ℕ) (r : Growing) (s : List ℕ) (g : 
   pub counts : Exposures (length s) ends (full s′) x′
   pub rings : Rings (g .book .vertices) (g .book .parent) (g .book .low) x′ ring′
   pub filled : g .filled ≡ countUpTo (length s) (λ e. full s′ e && not (full s e))
+  pub room : length filled′ ≡ edgeLimit

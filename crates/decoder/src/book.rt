@@ -177,45 +177,58 @@ impl Book {
         support: &mut [u8],
         exposure: &mut [u16; Self::VERTICES],
         ring: &mut [u16; Self::VERTICES],
+        filled: &mut [u16; Self::EDGES],
     ) -> Grown
-        requires { ⌜ Growable self (now ends) (now latest) (now earlier) growing (now support) (now exposure) (now ring) ⌝ }
-        ensures { λ r. ⌜ Grows self (before ends) growing (before support) r (after support) (after exposure) (after ring) ⌝ }
+        requires { ⌜ Growable self (now ends) (now latest) (now earlier) growing (now support) (now exposure) (now ring) (now filled) ⌝ }
+        ensures { λ r.
+            ⌜ Grows self (before ends) growing (before support) r (after support) (after exposure) (after ring) (after filled) ⌝ }
     {
-        let mut book = self;
-        let mut filled = [0u16; Self::EDGES];
+        let vertices = self.vertices;
+        let mut parent = self.parent;
+        let mut size = self.size;
+        let mut low = self.low;
+        let mut figure = self.figure;
         let count = raise(
             latest,
             earlier,
-            &book.figure,
+            &figure,
             growing,
             exposure,
             ring,
             support,
-            &mut filled,
+            filled,
         );
-        let mut figure = book.figure;
-        shut_listed(
-            &book.parent,
-            &book.low,
-            ends,
-            &filled,
-            count,
-            exposure,
-            &mut figure,
-        );
-        book.figure = figure;
+        shut_listed(&parent, &low, ends, filled, count, exposure, &mut figure);
         let mut i = 0;
         while i < count {
             let number = filled[i];
             let edge = Edge(number);
             let a = first_end(ends, edge);
             let b = second_end(ends, edge);
-            if apart(&book.parent, a, b) {
-                join_rings(&book.parent, &book.low, ring, a, b);
-                book = book.fuse(a, b).book;
+            if apart(&parent, a, b) {
+                join_rings(&parent, &low, ring, a, b);
+                let book = Book {
+                    vertices,
+                    parent,
+                    size,
+                    low,
+                    figure,
+                };
+                let fused = book.fuse(a, b).book;
+                parent = fused.parent;
+                size = fused.size;
+                low = fused.low;
+                figure = fused.figure;
             }
             i += 1;
         }
+        let book = Book {
+            vertices,
+            parent,
+            size,
+            low,
+            figure,
+        };
         Grown {
             book,
             filled: count,

@@ -22,12 +22,13 @@ fn count_end(exposure: &mut [u16; VERTICES], vertex: Vertex)
     exposure[v] = exposure[v] + 1;
 }
 
-// For each vertex, how many ends of edges that aren't full lie at it. A vertex is on the boundary of its cluster where there is one.
-pub(crate) fn exposure_of(ends: &[u16], support: &[u8]) -> [u16; VERTICES]
+// For each vertex, how many ends of edges that aren't full lie at it. A vertex is on the boundary of its cluster where there is one. No end is
+// counted yet.
+pub(crate) fn count_ends(ends: &[u16], support: &[u8], exposure: &mut [u16; VERTICES])
     requires { ⌜ EndsWithin vertexLimit (length (now support)) (now ends) ⌝ }
-    ensures { λ r. ⌜ Exposures (length (before support)) (before ends) (full (before support)) r ⌝ }
+    requires { ⌜ Exposures 0 (now ends) (full (now support)) (now exposure) ⌝ }
+    ensures { λ _. ⌜ Exposures (length (before support)) (before ends) (full (before support)) (after exposure) ⌝ }
 {
-    let mut exposure = [0u16; VERTICES];
     let mut e = 0;
     while e < support.len() {
         let byte = support[e];
@@ -37,10 +38,9 @@ pub(crate) fn exposure_of(ends: &[u16], support: &[u8]) -> [u16; VERTICES]
             let edge = Edge(number);
             let a = first_end(ends, edge);
             let b = second_end(ends, edge);
-            count_end(&mut exposure, a);
-            count_end(&mut exposure, b);
+            count_end(exposure, a);
+            count_end(exposure, b);
         }
         e += 1;
     }
-    exposure
 }

@@ -1,10 +1,11 @@
 use crate::book::Book;
 use crate::end_lists::list_ends;
-use crate::exposure::exposure_of;
+use crate::exposure::count_ends;
 use crate::growing::Growth;
 use crate::growing::next;
 use crate::rings::lone_rings;
 use crate::support::lose;
+use model::limits::EDGES;
 use model::limits::ENDS;
 use model::limits::VERTICES;
 ghost use Rattle.model.specs.Lent.{before, after};
@@ -33,11 +34,13 @@ pub(crate) fn run(
         ⌜ Runs (policyOf growth) (bare vertices (before ends) (before opened) (before syndrome) (before loss)) r (after support) ⌝ }
 {
     lose(loss, support);
-    let mut exposure = exposure_of(ends, support);
+    let mut exposure = [0u16; VERTICES];
+    count_ends(ends, support, &mut exposure);
     let mut latest = [0u16; VERTICES];
     let mut earlier = [0u16; ENDS];
     list_ends(ends, &mut latest, &mut earlier);
-    let mut ring = lone_rings(vertices);
+    let mut ring = [0u16; VERTICES];
+    lone_rings(vertices, &mut ring);
     let mut book = Book::gathered(
         vertices,
         ends,
@@ -47,6 +50,7 @@ pub(crate) fn run(
         &exposure,
         &mut ring,
     );
+    let mut filled = [0u16; EDGES];
     let mut count = 0;
     loop {
         let following = next(growth, vertices, &book.figure);
@@ -61,6 +65,7 @@ pub(crate) fn run(
             support,
             &mut exposure,
             &mut ring,
+            &mut filled,
         );
         book = grown.book;
         count += 1;

@@ -3,23 +3,23 @@
 use crate::labels::name_of;
 use model::limits::VERTICES;
 use model::numbers::Vertex;
+ghost use mathlib.Core.Path.{_≡_};
 ghost use Prim.Native.Nat.{_≤_};
+ghost use lib.ListN.{length};
 ghost use Rattle.model.specs.Board.{vertexLimit};
 ghost use Rattle.model.specs.Lent.{before, after};
 ghost use Rattle.decoder.specs.Rings.{LoneRings, Prunable, Prunes, BothNamed, JoinsRings};
 
 // Each vertex alone: its ring is itself.
-pub(crate) fn lone_rings(vertices: usize) -> [u16; VERTICES]
-    requires { ⌜ vertices ≤ vertexLimit ⌝ }
-    ensures { λ r. ⌜ LoneRings vertices r ⌝ }
+pub(crate) fn lone_rings(vertices: usize, ring: &mut [u16; VERTICES])
+    requires { ⌜ (vertices ≤ vertexLimit) × (length (now ring) ≡ vertexLimit) ⌝ }
+    ensures { λ _. ⌜ LoneRings vertices (after ring) ⌝ }
 {
-    let mut ring = [0u16; VERTICES];
     let mut v = 0;
     while v < vertices {
         ring[v] = v as u16;
         v += 1;
     }
-    ring
 }
 
 // The ring of the cluster with that smallest vertex, without the vertices that have left the boundary. The smallest stays, as the ring's place.

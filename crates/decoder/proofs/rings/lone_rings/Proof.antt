@@ -17,7 +17,7 @@ abbrev μ-loop : tie.MeasureT-loop
 μ-loop vertices ring₀ v₀ ring v = vertices - v
 
 loop-holds : tie.Need-loop-holds Inv-loop μ-loop
-loop-holds c = (search needs, lone-none vertexLimit refl)
+loop-holds c = (search needs, lone-none _ (c .pre .1))
 
 cast-ring : tie.Need-cast-ring Inv-loop μ-loop
 cast-ring c = search needs
@@ -25,8 +25,8 @@ cast-ring c = search needs
 mul-ring : tie.Need-mul-ring Inv-loop μ-loop
 mul-ring c = search needs
 
-array-write-ring : tie.Need-array-write-ring Inv-loop μ-loop
-array-write-ring c = search needs
+element-write-ring : tie.Need-element-write-ring Inv-loop μ-loop
+element-write-ring c = search needs
 
 add-v : tie.Need-add-v Inv-loop μ-loop
 add-v c = search needs
@@ -37,7 +37,7 @@ loop-less c = search needs
 loop-again : tie.Need-loop-again Inv-loop μ-loop
 loop-again c =
     let at = c .before in
-    (search needs, rw add-one (lone-next _ _ (omega (arith, c .loop-test .taken, at .before .pre)) (at .loop .inv .1)))
+    (search needs, rw add-one (lone-next _ _ (omega (arith, c .loop-test .taken, at .before .pre .0)) (at .loop .inv .1)))
 
 returns : tie.Need-returns Inv-loop μ-loop
 returns c =
@@ -54,7 +54,7 @@ lone-rings-spec =
     loop-holds
     cast-ring
     mul-ring
-    array-write-ring
+    element-write-ring
     add-v
     loop-less
     loop-again

@@ -1,7 +1,7 @@
 -- `grow` meets its contract: document 01's step 4. Each turn of its loop fuses the ends of one newly full edge and joins their rings, unless
 -- they are together already. Assumes nothing.
 use Prim.Native.Nat.{ℕ, _≤_, _<_, _-_}
-use mathlib.Core.Path.{_≡_}
+use mathlib.Core.Path.{_≡_, sym, ap}
 use mathlib.Core.Logic.{⊎-elim}
 use mathlib.Core.List.{List}
 use native.Mathlib.Numerals.{add-one}
@@ -9,6 +9,7 @@ use native.Mathlib.Omega.{arith}
 use lib.ListN.{length, getD}
 use borrow.Author.Needs.{needs}
 use Rattle.model.specs.Board.{edgeLimit}
+use Rattle.decoder.specs.declared.book.Book.{Book}
 use Rattle.decoder.specs.Rings.{Rings}
 use Rattle.decoder.specs.Books.{BothKept, FusesListed}
 use Rattle.decoder.proofs.BookLaws.{united-together}
@@ -17,22 +18,31 @@ use Rattle.decoder.proofs.GrowthStep.{raisable, raised, few-listed, gro
 use Rattle.decoder.proofs.book.Book.grow.Statement.{statement}
 use Rattle.decoder.proofs.book.Book.grow.Tie as tie
 
+-- the book of the arrays
+abbrev made : ℕ → List ℕ → List ℕ → List ℕ → List ℕ → Book
+made vertices parent size low figure = record { vertices = vertices; parent = parent; size = size; low = low; figure = figure }
+
 abbrev Inv-loop : tie.InvT-loop
-Inv-loop ends latest earlier support exposure ring₀ book₀ filled count i₀ ring book i =
-    (i ≤ count) × (FusesListed book₀ ends filled i book × Rings (book .vertices) (book .parent) (book .low) exposure ring)
+Inv-loop ends latest earlier support exposure ring₀ filled vertices parent₀ size₀ low₀ figure₀ count i₀ ring parent size low figure i =
+    (i ≤ count)
+    × (FusesListed (made vertices parent₀ size₀ low₀ figure₀) ends filled i (made vertices parent size low figure)
+    × Rings vertices parent low exposure ring)
 
 abbrev μ-loop : tie.MeasureT-loop
-μ-loop ends latest earlier support exposure ring₀ book₀ filled count i₀ ring book i = count - i
+μ-loop ends latest earlier support exposure ring₀ filled vertices parent₀ size₀ low₀ figure₀ count i₀ ring parent size low figure i = count - i
+
+abbrev start-at : tie.After-raise-arg4 Inv-loop μ-loop → tie.Start Inv-loop μ-loop
+start-at c = c .before .before .before .before .before .before .before .before .before .before .before
 
 raise-requires : tie.Need-raise-requires Inv-loop μ-loop
 raise-requires c κs =
-    let start = c .before .before .before .before .before .before .before .before in
-    raisable (start .args .self) _ _ _ _ _ _ _ (start .pre)
+    let start = start-at c in
+    raisable (start .args .self) _ _ _ _ _ _ _ _ (start .pre)
 
 -- Where the call began, what raising leaves, and what shutting leaves
 
 abbrev start-of : tie.After-raise Inv-loop μ-loop → tie.Start Inv-loop μ-loop
-start-of c = c .before .before .before .before .before .before .before .before .before
+start-of c = start-at (c .before)
 
 abbrev ringLeft : tie.After-raise Inv-loop μ-loop → List ℕ
 ringLeft c = c .raise .last .1 .1 .1 .1 .1 .0
@@ -44,7 +54,7 @@ abbrev filledLeft : tie.After-raise Inv-loop μ-loop → List ℕ
 filledLeft c = c .raise .last .1 .1 .1 .1 .1 .1 .1 .0
 
 abbrev raised-of : tie.After-shut-listed Inv-loop μ-loop → tie.After-raise Inv-loop μ-loop
-raised-of c = c .before .before .before .before .before .before .before .before .before .before
+raised-of c = c .before .before .before .before .before .before .before .before
 
 abbrev exposureLeft : tie.After-shut-listed Inv-loop μ-loop → List ℕ
 exposureLeft c = c .shut-listed .last .1 .1 .1 .1 .1 .0
@@ -54,9 +64,9 @@ figureLeft c = c .shut-listed .last .1 .1 .1 .1 .1 .1 .0
 
 shut-listed-requires : tie.Need-shut-listed-requires Inv-loop μ-loop
 shut-listed-requires c κs =
-    let at = c .before .before .before .before .before .before .before .before .before in
+    let at = c .before .before .before .before .before .before .before in
     let start = start-of at in
-    growable-listed (start .args .self) _ _ _ _ _ _ _ (start .pre) _ (ringLeft at) (supportLeft at) (filledLeft at) (at .raise .ensures)
+    growable-listed (start .args .self) _ _ _ _ _ _ _ _ (start .pre) _ (ringLeft at) (supportLeft at) (filledLeft at) (at .raise .ensures)
 
 loop-holds : tie.Need-loop-holds Inv-loop μ-loop
 loop-holds c =
@@ -64,9 +74,9 @@ loop-holds c =
     let start = start-of at in (
       search needs,
       (
-        shut-begins (start .args .self) _ _ _ _ _ _ _ (start .pre) _ (ringLeft at) (supportLeft at) (filledLeft at) (at .raise .ensures)
+        shut-begins (start .args .self) _ _ _ _ _ _ _ _ (start .pre) _ (ringLeft at) (supportLeft at) (filledLeft at) (at .raise .ensures)
             (exposureLeft c) (figureLeft c) (c .shut-listed .ensures),
-        shut-rings (start .args .self) _ _ _ _ _ _ _ (start .pre) _ (ringLeft at) (supportLeft at) (filledLeft at) (at .raise .ensures)
+        shut-rings (start .args .self) _ _ _ _ _ _ _ _ (start .pre) _ (ringLeft at) (supportLeft at) (filledLeft at) (at .raise .ensures)
             (exposureLeft c) (figureLeft c) (c .shut-listed .ensures),
       ),
     )
@@ -80,13 +90,13 @@ few : (c : tie.In-loop Inv-loop μ-loop) → raised-at c .raise .result ≤ edge
 few c =
     let at = raised-at c in
     let start = start-of at in
-    few-listed (start .args .self) _ _ _ _ _ _ _ (start .pre) _ (ringLeft at) (supportLeft at) (filledLeft at) (at .raise .ensures)
+    few-listed (start .args .self) _ _ _ _ _ _ _ _ (start .pre) _ (ringLeft at) (supportLeft at) (filledLeft at) (at .raise .ensures)
 
 mul-number : tie.Need-mul-number Inv-loop μ-loop
 mul-number c = let h = few c in search needs
 
-array-read-number : tie.Need-array-read-number Inv-loop μ-loop
-array-read-number c = omega (arith, c .loop-test .taken, few c)
+element-copy-out-number : tie.Need-element-copy-out-number Inv-loop μ-loop
+element-copy-out-number c = omega (arith, c .loop-test .taken, few c)
 
 -- the edge whose turn it is, and its ends
 listed-edge : (c : tie.In-loop Inv-loop μ-loop) →
@@ -94,34 +104,44 @@ listed-edge : (c : tie.In-loop Inv-loop μ-loop) →
 listed-edge c =
     let at = raised-at c in
     let start = start-of at in
-    raised (start .args .self) _ _ _ _ _ _ _ (start .pre) _ (ringLeft at) (supportLeft at) (filledLeft at) (at .raise .ensures) .edges _
+    raised (start .args .self) _ _ _ _ _ _ _ _ (start .pre) _ (ringLeft at) (supportLeft at) (filledLeft at) (at .raise .ensures) .edges _
     (c .loop-test .taken)
 
 first-end-requires : tie.Need-first-end-requires Inv-loop μ-loop
-first-end-requires c κs = omega (arith, listed-edge c, start-of (raised-at c) .pre .lent .two-ends)
+first-end-requires c κs = omega (arith, listed-edge (c .before), start-of (raised-at (c .before)) .pre .lent .two-ends)
 
 second-end-requires : tie.Need-second-end-requires Inv-loop μ-loop
-second-end-requires c κs = omega (arith, listed-edge (c .before), start-of (raised-at (c .before)) .pre .lent .two-ends)
+second-end-requires c κs =
+    omega (arith, listed-edge (c .before .before), start-of (raised-at (c .before .before)) .pre .lent .two-ends)
+
+-- the turn whose second end was looked up, and the book as it stands there
+abbrev turn : tie.After-second-end Inv-loop μ-loop → tie.In-loop Inv-loop μ-loop
+turn c = c .before .before .before
+
+abbrev bookAt : tie.In-loop Inv-loop μ-loop → Book
+bookAt c =
+    let loop = c .before .loop in
+    made (start-of (raised-at c) .args .self .vertices) (loop .parent) (loop .size) (loop .low) (loop .figure)
 
 kept-at : (c : tie.After-second-end Inv-loop μ-loop) →
-    BothKept (c .before .before .before .loop .book) (c .before .first-end .result .0) (c .second-end .result .0)
+    BothKept (bookAt (turn c)) (c .before .first-end .result .0) (c .second-end .result .0)
 kept-at c =
-    let test = c .before .before in
+    let test = turn c in
     let shut = test .before .before in
     let at = raised-of shut in
     let start = start-of at in
-    next-kept (start .args .self) _ _ _ _ _ _ _ (start .pre) _ (ringLeft at) (supportLeft at) (filledLeft at) (at .raise .ensures)
+    next-kept (start .args .self) _ _ _ _ _ _ _ _ (start .pre) _ (ringLeft at) (supportLeft at) (filledLeft at) (at .raise .ensures)
     (exposureLeft shut) (figureLeft shut) (shut .shut-listed .ensures) _ _ (test .before .loop .inv .1 .0) (test .loop-test .taken) _ _
     (c .before .first-end .ensures) (c .second-end .ensures)
 
 apart-requires : tie.Need-apart-requires Inv-loop μ-loop
-apart-requires c κs = both-rooted _ _ _ (kept-at (c .before .before))
+apart-requires c κs = both-rooted _ _ _ (kept-at (c .before))
 
 join-rings-requires : tie.Need-join-rings-requires Inv-loop μ-loop
-join-rings-requires c κs = both-named _ _ _ (kept-at (c .before .before .before .before .before .before .before .before))
+join-rings-requires c κs = both-named _ _ _ (kept-at (c .before .before .before .before .before .before))
 
 fuse-requires : tie.Need-fuse-requires Inv-loop μ-loop
-fuse-requires c κs = kept-at (c .before .before .before .before .before .before .before .before .before)
+fuse-requires c κs = kept-at (c .before .before .before .before .before .before .before)
 
 add-i : tie.Need-add-i Inv-loop μ-loop
 add-i c = search needs
@@ -129,24 +149,31 @@ add-i c = search needs
 loop-less : tie.Need-loop-less Inv-loop μ-loop
 loop-less c = search needs
 
+-- a book with its own number of vertices is that book
+with-count : (b : Book) (n : ℕ) → b .vertices ≡ n → made n (b .parent) (b .size) (b .low) (b .figure) ≡ b
+with-count b n q = ap (λ k. made k (b .parent) (b .size) (b .low) (b .figure)) (sym q)
+
 loop-again : tie.Need-loop-again Inv-loop μ-loop
 loop-again c =
     let tested = c .before in
-    let second = tested .before .before .before in
+    let second = tested .before .before in
     let first = second .before in
-    let at = first .before .before in
+    let test = turn second in
+    let at = test .before in
     let now = at .loop .inv .1 .0 in (
       search needs,
       rw add-one
           (⊎-elim
-          (λ w. rw (w .8, w .9) (
-            fuse-next _ _ _ _ _ now _ _ _ (first .first-end .ensures) (second .second-end .ensures) (w .6 .ensures .unites),
-            joined-rings _ _ _ (kept-at second) _ (tested .apart .ensures) (w .0 .taken) _ _ _ (w .5 .ensures) _ (w .6 .ensures .unites)
-                (at .loop .inv .1 .1),
+          (λ w.
+          let unites = w .5 .ensures .unites in
+          let same = with-count (w .5 .result .book) _ (unites .vertices) in
+          rw (w .11, w .12, w .13, w .14, w .15) (
+            rw same (fuse-next _ _ _ _ _ now _ _ _ (first .first-end .ensures) (second .second-end .ensures) unites),
+            rw (sym (unites .vertices)) (joined-rings _ _ _ (kept-at second) _ (tested .apart .ensures) (w .0 .taken) _ _ _ (w .4 .ensures) _ unites (at .loop .inv .1 .1)),
           ))
-          (λ w. rw (w .1, w .2) (
+          (λ w. rw (w .1, w .2, w .3, w .4, w .5) (
             fuse-next _ _ _ _ _ now _ _ _ (first .first-end .ensures) (second .second-end .ensures)
-                (united-together (at .loop .book) _ _ _ (now .good) (tested .apart .ensures) (w .0 .left)),
+                (united-together (bookAt test) _ _ _ (now .good) (tested .apart .ensures) (w .0 .left)),
             at .loop .inv .1 .1,
           ))
           (c .if1 .came)),
@@ -162,7 +189,7 @@ returns c =
     let at = raised-of shut in
     let start = start-of at in
     let p : loop .i ≡ at .raise .result = omega arith in
-    grows (start .args .self) _ _ _ _ _ _ _ (start .pre) _ (ringLeft at) (supportLeft at) (filledLeft at) (at .raise .ensures)
+    grows (start .args .self) _ _ _ _ _ _ _ _ (start .pre) _ (ringLeft at) (supportLeft at) (filledLeft at) (at .raise .ensures)
     (exposureLeft shut) (figureLeft shut) (shut .shut-listed .ensures) _ _ (rw p at (loop .inv .1 .0)) (loop .inv .1 .1)
 
 pub grow-spec : {M : Type 1} → statement M
@@ -175,7 +202,7 @@ grow-spec =
     shut-listed-requires
     loop-holds
     mul-number
-    array-read-number
+    element-copy-out-number
     first-end-requires
     second-end-requires
     apart-requires

@@ -1,4 +1,4 @@
--- `exposure_of` meets its contract: each turn counts the ends of one edge that isn't full. Assumes nothing.
+-- `count_ends` meets its contract: each turn counts the ends of one edge that isn't full. Assumes nothing.
 use Prim.Native.Nat.{_≤_, _-_}
 use mathlib.Core.Path.{_≡_, refl, sym, _∙_}
 use mathlib.Core.Logic.{⊎-elim}
@@ -11,8 +11,8 @@ use Rattle.model.specs.Board.{vertexLimit}
 use Rattle.model.specs.Growth.{full}
 use Rattle.decoder.specs.Exposures.{Exposures}
 use Rattle.decoder.proofs.EndCounts.{ends-none, room-first, room-second, ends-more, ends-passed}
-use Rattle.decoder.proofs.exposure.exposure_of.Statement.{statement}
-use Rattle.decoder.proofs.exposure.exposure_of.Tie as tie
+use Rattle.decoder.proofs.exposure.count_ends.Statement.{statement}
+use Rattle.decoder.proofs.exposure.count_ends.Tie as tie
 
 abbrev Inv-loop : tie.InvT-loop
 Inv-loop ends support exposure₀ e₀ exposure e = (e ≤ length support) × Exposures e ends (full support) exposure
@@ -21,7 +21,7 @@ abbrev μ-loop : tie.MeasureT-loop
 μ-loop ends support exposure₀ e₀ exposure e = length support - e
 
 loop-holds : tie.Need-loop-holds Inv-loop μ-loop
-loop-holds c = (search needs, ends-none _ _ vertexLimit refl)
+loop-holds c = search needs
 
 shared-slice-read-byte : tie.Need-shared-slice-read-byte Inv-loop μ-loop
 shared-slice-read-byte c = search needs
@@ -43,7 +43,7 @@ count-end-requires c κs =
     let first = c .before .before in
     let test = first .before .before .before .before in
     let at = test .before in
-    let pre = at .before .before .before .pre in
+    let pre = at .before .before .before .pre .0 in
     let inside = pre .first-in-range (at .loop .e) (test .loop-test .taken) in
     room-first _ _ _ _ (omega (arith, test .loop-test .taken, pre .edge-limit)) (at .loop .inv .1) _ (omega (arith, first .first-end .ensures, inside))
 
@@ -54,7 +54,7 @@ count-end-requires-2 c κs =
     let first = second .before in
     let test = first .before .before .before .before in
     let at = test .before in
-    let pre = at .before .before .before .pre in
+    let pre = at .before .before .before .pre .0 in
     let a = pre .first-in-range (at .loop .e) (test .loop-test .taken) in
     let b = pre .second-in-range (at .loop .e) (test .loop-test .taken) in
     room-second _ _ _ _ (omega (arith, test .loop-test .taken, pre .edge-limit)) (at .loop .inv .1) _ (omega (arith, first .first-end .ensures, a))
@@ -72,7 +72,7 @@ loop-again c =
     let test = tested .before .before in
     let at = test .before in
     let e = at .loop .e in
-    let pre = at .before .before .before .pre in
+    let pre = at .before .before .before .pre .0 in
     let a = pre .first-in-range e (test .loop-test .taken) in
     let b = pre .second-in-range e (test .loop-test .taken) in (
       search needs,
@@ -91,8 +91,8 @@ returns c =
     let p : length (at .before .before .before .args .support .now) ≡ at .loop .e = omega arith in
     rw p (at .loop .inv .1)
 
-pub exposure-of-spec : {M : Type 1} → statement M
-exposure-of-spec =
+pub count-ends-spec : {M : Type 1} → statement M
+count-ends-spec =
     tie.close
     (tie.spec
     Inv-loop
