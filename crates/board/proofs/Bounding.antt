@@ -12,7 +12,7 @@ use lib.ListN.{length}
 use lib.Dec.{eqb, leb}
 use Rattle.model.specs.Board.{plain}
 use Rattle.model.specs.Refusals.{above, outside, litOpen, edgesOf}
-use Rattle.model.specs.Sums.{firstUpTo}
+use Rattle.model.specs.Sums.{firstUpTo, ones}
 use Rattle.model.proofs.SumLaws.{first-none}
 use Rattle.board.specs.Bounds.{Bounded, entry, lesser}
 
@@ -32,6 +32,10 @@ bounded-whole n b p = record { within = λ k h. b .within k (omega arith) }
 pub none-above : (l : List ℕ) {limit top : ℕ} → Bounded (length l) (entry l) top → top ≤ limit → none ≡ firstUpTo (length l) (above limit l)
 none-above l {limit} b p =
     sym (first-none (length l) (above limit l) (λ i h. le-ltb limit (entry l i) (omega (arith, b .within i h))))
+
+-- no entry is a 1
+pub none-one : (l : List ℕ) {top : ℕ} → Bounded (length l) (entry l) top → top ≡ 0 → (i : ℕ) → i < length l → ones l i ≡ false
+none-one l b p i h = ne-eqb (entry l i) 1 (λ q. omega (arith, b .within i h))
 
 -- no edge has an end at or above the vertex count
 pub none-outside :

@@ -1,7 +1,7 @@
 -- The pieces of a key put together: each way out of `key` is that of the definitions. Assumes nothing.
 use Prim.Native.Nat.{ℕ, _≤_, _<_}
 use mathlib.Core.Path.{_≡_, refl, sym, ap, _∙_, subst}
-use mathlib.Core.Bool.{_&&_}
+use mathlib.Core.Bool.{false, _&&_}
 use mathlib.Core.List.{List, []}
 use mathlib.Core.Option.{none}
 use native.Mathlib.Omega.{arith}
@@ -10,32 +10,36 @@ use lib.Seq.{getD-take}
 use lib.Dec.{eqb}
 use Rattle.model.specs.declared.numbers.Vertex.{Vertex}
 use Rattle.model.specs.declared.refusal.Refusal.the-variants.{NoCorrection}
-use Rattle.model.specs.Sums.{Set, ones, bytes, countUpTo}
-use Rattle.model.specs.Board.{Board, Sheet, EndsWithin, Inside, Unlit, unmarked, plain}
+use Rattle.model.specs.Sums.{Set, bit, ones, bytes, countUpTo}
+use Rattle.model.specs.Board.{Board, Sheet, edges, EndsWithin, Inside, Unlit, unmarked, plain}
 use Rattle.model.specs.Components.{label, within}
-use Rattle.model.specs.Growth.{full, clusters, oddlyLit, Policy}
+use Rattle.model.specs.Growth.{start, full, clusters, oddlyLit, Policy}
 use Rattle.model.specs.Correction.{spanned, oddEnds, correction}
 use Rattle.model.specs.Decoding.{smallestOdd, grownBy, peeled}
 use Rattle.model.specs.Refusals.{edgesOf}
-use Rattle.model.proofs.SumLaws.{odd-cong}
-use Rattle.model.proofs.ListLaws.{ones-bytes}
+use Rattle.model.proofs.SumLaws.{odd-cong, count-none}
+use Rattle.model.proofs.ListLaws.{ones-bytes, values-are}
 use Rattle.board.specs.declared.outcome.FoundVertex.{FoundVertex}
 use Rattle.board.specs.declared.outcome.FoundVertex.the-variants.{At, Nothing}
 use Rattle.board.specs.Checks.{vertexFound}
+use Rattle.board.specs.Bounds.{Bounded, entry}
+use Rattle.board.proofs.Bounding.{none-one}
 use Rattle.theory.proofs.MarksAside.{unmarked-inside, clusters-aside, spanned-aside}
 use Rattle.theory.proofs.Corrections.{spanned-cong}
 use Rattle.theory.proofs.OddEnds.{ends-even, ends-labelled}
 use Rattle.theory.proofs.Supports.{reached-supports}
 use Rattle.theory.proofs.Decodings.{odd-answer, even-answer, key-reached, key-even}
 use Rattle.theory.proofs.GrowthRun.{NoneOdd, Feeds}
+use Rattle.theory.proofs.NothingLit.{no-odd-part, nothing-grows, nothing-corrected}
 use Rattle.union_find.specs.Trees.{Rooted}
 use Rattle.parts.specs.Searchable.{Searchable}
-use Rattle.peeling.specs.Peeling.{EvenClusters, Peelable, correctionOf, Peels}
+use Rattle.peeling.specs.Peeling.{Clears, EvenClusters, Peelable, correctionOf, Peels}
 use Rattle.decoder.specs.declared.book.Book.{Book}
 use Rattle.decoder.specs.declared.growing.Growth.{Growth}
 use Rattle.decoder.specs.declared.growth.Ran.{Ran}
 use Rattle.decoder.specs.declared.key.Solved.the-variants.{Key, Refused}
 use Rattle.decoder.specs.Growing.{policyOf}
+use Rattle.decoder.specs.Gains.{startOf}
 use Rattle.decoder.specs.Figures.{Lows}
 use Rattle.decoder.specs.TreeLabels.{Nameable, Labelled}
 use Rattle.decoder.specs.OddEnds.{vertexBoard, Markable, MarksEnds}
@@ -43,6 +47,7 @@ use Rattle.decoder.specs.Runs.{bare, Runnable, Runs}
 use Rattle.decoder.specs.Keys.{Keyable, solvedOrNone, Keys}
 use Rattle.decoder.proofs.NameLaws.{names-label, names-are}
 use Rattle.decoder.proofs.Policies.{policy-feeds}
+use Rattle.decoder.proofs.RunLaws.{start-of-lost}
 
 module _ (x : Growth) (n : ℕ) (ends opened syndrome loss support written : List ℕ) (w : Keyable n ends opened syndrome loss support written) where
   abbrev m : ℕ
@@ -62,6 +67,39 @@ module _ (x : Growth) (n : ℕ) (ends opened syndrome loss support written : Lis
 
   halves : edgesOf ends ≡ m
   halves = omega (arith, w .lent .two-ends)
+
+  feeds : Feeds board (ones syndrome) (policy board (ones syndrome))
+  feeds = policy-feeds x board range (ones syndrome)
+
+  -- Nothing is lit
+
+  module _ {top : ℕ} (bound : Bounded (length syndrome) (entry syndrome) top) (zero : top ≡ 0) where
+    dark : (v : ℕ) → v < n → ones syndrome v ≡ false
+    dark v h = none-one syndrome bound zero v (omega (arith, w .lit .count))
+
+    still : grownBy policy sheet ≡ record { support = start board (ones loss); count = 0 }
+    unfolding grownBy
+    still = nothing-grows board (ones syndrome) dark (policy board (ones syndrome)) feeds (ones loss)
+
+    empty : (e : ℕ) → peeled sheet (grownBy policy sheet) e ≡ false
+    unfolding peeled
+    empty = nothing-corrected board (full (grownBy policy sheet .support)) (ones syndrome) dark
+
+    pub unlit-keyed : (s k : List ℕ) → s ≡ startOf loss → Clears written k → Keys policy sheet support written (Key 0 0) s k
+    unfolding solvedOrNone
+    unlit-keyed s k lost clears =
+        let D = peeled sheet (grownBy policy sheet) in
+        let many = length-replicate {A = ℕ} m 0 in
+        record {
+          result =
+              ap (λ g. Key g 0) (sym (ap (λ y. y .count) still))
+              ∙ ap (Key (grownBy policy sheet .count)) (sym (count-none (edges board) D (λ e h. empty e)))
+              ∙ sym (even-answer Refused _ sheet (no-odd-part board (ones syndrome) dark));
+          support-bytes = lost ∙ start-of-lost n ends opened loss ∙ sym (ap (λ y. y .support) still);
+          correction-bytes =
+              values-are (edges board) (λ e. bit (D e)) k (clears .same-length ∙ w .correction-long ∙ sym many)
+              (λ e h. clears .clear .each e (omega (arith, many, w .correction-long)) ∙ sym (ap bit (empty e)));
+        }
 
   -- Number 10
 
@@ -164,9 +202,6 @@ module _ (x : Growth) (n : ℕ) (ends opened syndrome loss support written : Lis
                 ∙ ends-labelled board names l (ones syndrome) labels-are v h
 
             -- Peeling: growth has left no cluster odd
-
-            feeds : Feeds board (ones syndrome) (policy board (ones syndrome))
-            feeds = policy-feeds x board range (ones syndrome)
 
             none-left : NoneOdd board l (ones syndrome)
             none-left =

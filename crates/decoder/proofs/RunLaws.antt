@@ -47,6 +47,11 @@ none-listed =
       earlier-long = length-replicate {A = ℕ} (2 * edgeLimit) 0;
     }
 
+-- lost edges are full at the start, and no others
+pub start-of-lost : (n : ℕ) (ends opened loss : List ℕ) → startOf loss ≡ start (unmarked n (length loss) ends opened) (ones loss)
+unfolding start
+start-of-lost n ends opened loss = ap (λ k. values k (λ e. cond (ones loss e) 2 0)) (sym (length-replicate {A = ℕ} (length loss) 0))
+
 -- after g growths: the book is that of the supports, which growths that the policy names reached, with the rings of its clusters; and what is
 -- left of the run ends where the whole run does
 pub record Running (x : Growth) (n : ℕ) (ends opened syndrome loss : List ℕ) (s counts ring : List ℕ) (b : Book) (g : ℕ) : Type 0 where
@@ -91,8 +96,7 @@ module _ (x : Growth) (n : ℕ) (ends opened syndrome loss s₀ : List ℕ) (w :
     started-long = ap length lost ∙ length-values (length loss) (λ e. cond (ones loss e) 2 0)
 
     starts : s ≡ start B (ones loss)
-    unfolding start
-    starts = lost ∙ ap (λ k. values k (λ e. cond (ones loss e) 2 0)) (sym (length-replicate {A = ℕ} m 0))
+    starts = lost ∙ start-of-lost n ends opened loss
 
     started-lent : EndsWithin n (length s) ends
     started-lent = subst (λ k. EndsWithin n k ends) (sym started-long) (w .lent)

@@ -44,7 +44,3 @@ pub record Solves (policy : Board → Set → Policy) (X : Sheet) (support corre
   pub result : r ≡ answer (decodeRefusal X support correction) Refused (solvedOrNone policy X)
   pub support-bytes : support′ ≡ solvedOr r (grownBy policy X .support) support
   pub correction-bytes : correction′ ≡ solvedOr r (bytes (edges (X .board)) (peeled X (grownBy policy X))) correction
-
--- how many bytes an answer writes into each buffer
-abbrev pub writtenBytes : Solved → ℕ → ℕ
-writtenBytes r m = solvedOr r m 0

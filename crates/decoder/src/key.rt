@@ -2,15 +2,17 @@ use crate::growing::Growth;
 use crate::growth::run;
 use crate::labels::labels_of;
 use crate::odd_ends::odd_ends;
+use crate::support::lose;
+use board::largest::largest_byte;
 use board::outcome::FoundVertex;
 use model::refusal::Refusal;
 use parts::first_odd;
+use peeling::clear;
 use peeling::peel;
-ghost use mathlib.Core.Path.{_≡_};
 ghost use Rattle.model.specs.Lent.{before, after};
 ghost use Rattle.decoder.specs.Growing.{policyOf};
 ghost use Rattle.decoder.specs.Runs.{bare};
-ghost use Rattle.decoder.specs.Keys.{Keyable, Keys, writtenBytes};
+ghost use Rattle.decoder.specs.Keys.{Keyable, Keys};
 
 // A key, with the number of growths or rounds and that of correction edges, or a refusal.
 pub(crate) enum Solved {
@@ -18,7 +20,8 @@ pub(crate) enum Solved {
     Refused(Refusal),
 }
 
-// The key of a sheet that has passed the tests, or number 10, which leaves both buffers as they were. It looks at no marks.
+// The key of a sheet that has passed the tests, or number 10, which leaves both buffers as they were. It looks at no marks. Where nothing is
+// lit nothing grows and no edge is corrected.
 pub(crate) fn key(
     growth: Growth,
     vertices: usize,
@@ -34,6 +37,11 @@ pub(crate) fn key(
         ⌜ Keys (policyOf growth) (bare vertices (before ends) (before opened) (before syndrome) (before loss))
         (before support) (before correction) r (after support) (after correction) ⌝ }
 {
+    if largest_byte(syndrome) == 0 {
+        lose(loss, support);
+        clear(correction);
+        return Solved::Key { count: 0, edges: 0 };
+    }
     if let FoundVertex::At(v) = first_odd(vertices, ends, opened, syndrome) {
         return Solved::Refused(Refusal::NoCorrection(v));
     }
@@ -44,15 +52,5 @@ pub(crate) fn key(
     Solved::Key {
         count: ran.count,
         edges,
-    }
-}
-
-// How many bytes of each lent buffer an answer writes: one for each edge, and none where it refuses.
-pub(crate) fn written(solved: Solved, edges: usize) -> usize
-    ensures { λ r. ⌜ r ≡ writtenBytes solved edges ⌝ }
-{
-    match solved {
-        Solved::Key { count: _, edges: _ } => edges,
-        Solved::Refused(_) => 0,
     }
 }

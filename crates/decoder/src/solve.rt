@@ -1,16 +1,13 @@
 use crate::growing::Growth;
 use crate::key::Solved;
 use crate::key::key;
-use crate::key::written;
-use board::copy::copy_bytes;
 use board::outcome::Check;
 use board::tests::check_decode;
-use model::limits::EDGES;
 ghost use Rattle.model.specs.Lent.{before, after, sheetLent};
 ghost use Rattle.decoder.specs.Growing.{policyOf};
 ghost use Rattle.decoder.specs.Keys.{Solves};
 
-// What both calls do: the tests, then the key, made in arrays, of which as many bytes are copied as the answer writes.
+// What both calls do: the tests, then the key, which is written where no test fails and no part is odd.
 pub(crate) fn solve(
     growth: Growth,
     vertices: usize,
@@ -38,21 +35,14 @@ pub(crate) fn solve(
     ) {
         return Solved::Refused(refusal);
     }
-    let edges = loss.len();
-    let mut new_support = [0u8; EDGES];
-    let mut new_correction = [0u8; EDGES];
-    let solved = key(
+    key(
         growth,
         vertices,
         ends,
         opened,
         syndrome,
         loss,
-        &mut new_support[..edges],
-        &mut new_correction[..edges],
-    );
-    let count = written(solved, edges);
-    copy_bytes(&new_support, count, support);
-    copy_bytes(&new_correction, count, correction);
-    solved
+        support,
+        correction,
+    )
 }

@@ -3,4 +3,4 @@ pub mod Connecting
 pub mod Flipping
 pub mod Clearing
 pub mod Marking
-pub mod NothingLit
+pub mod NothingMarked

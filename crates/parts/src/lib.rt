@@ -97,8 +97,8 @@ fn first_marked(vertices: usize, parent: &[u16; VERTICES], odd: &[u8; VERTICES])
     FoundVertex::Nothing
 }
 
-// The smallest vertex of all odd parts of the whole board, by its parts.
-fn odd_part(vertices: usize, ends: &[u16], opened: &[u8], syndrome: &[u8]) -> FoundVertex
+// The smallest vertex of all odd parts of the whole board. Vertices are gone through only where some root has a 1.
+pub fn first_odd(vertices: usize, ends: &[u16], opened: &[u8], syndrome: &[u8]) -> FoundVertex
     requires { ⌜ Searchable vertices (now ends) (now opened) (now syndrome) ⌝ }
     ensures { λ r.
         ⌜ vertexFound r ≡ smallestOdd (unmarked vertices (edgesOf (before ends)) (before ends) (before opened))
@@ -111,17 +111,4 @@ fn odd_part(vertices: usize, ends: &[u16], opened: &[u8], syndrome: &[u8]) -> Fo
         return FoundVertex::Nothing;
     }
     first_marked(vertices, &parent, &odd)
-}
-
-// The same. Where nothing is lit no part is odd, and none is looked at.
-pub fn first_odd(vertices: usize, ends: &[u16], opened: &[u8], syndrome: &[u8]) -> FoundVertex
-    requires { ⌜ Searchable vertices (now ends) (now opened) (now syndrome) ⌝ }
-    ensures { λ r.
-        ⌜ vertexFound r ≡ smallestOdd (unmarked vertices (edgesOf (before ends)) (before ends) (before opened))
-        (ones (before syndrome)) ⌝ }
-{
-    if largest_byte(syndrome) == 0 {
-        return FoundVertex::Nothing;
-    }
-    odd_part(vertices, ends, opened, syndrome)
 }

@@ -36,8 +36,8 @@ fn cut(
     1
 }
 
-// Every byte is 0: no edge is in the correction yet.
-fn clear(correction: &mut [u8])
+// Every byte is 0: no edge is in the correction.
+pub fn clear(correction: &mut [u8])
     ensures { λ r. ⌜ Clears (before correction) (after correction) ⌝ }
 {
     for e in 0..correction.len() {

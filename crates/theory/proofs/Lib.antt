@@ -28,6 +28,7 @@ pub mod Supports
 pub mod RoundNumbers
 pub mod GrowthBound
 pub mod RoundGrowth
+pub mod NothingLit
 pub mod Decodings
 pub mod SoundKeys
 pub mod Distances

@@ -1,22 +1,58 @@
--- `key` meets its contract: number 10, or run, odd ends and peel. Assumes nothing.
+-- `key` meets its contract: nothing to do, number 10, or run, odd ends and peel. Assumes nothing.
 use borrow.Author.Needs.{needs}
 use mathlib.Core.Path.{sym}
-use Rattle.decoder.proofs.Keying.{searchable, shows-odd, runnable, nameable, markable, front-long, peelable, keyed}
+use Rattle.decoder.proofs.Keying.{unlit-keyed, searchable, shows-odd, runnable, nameable, markable, front-long, peelable, keyed}
 use Rattle.decoder.proofs.key.key.Statement.{statement}
 use Rattle.decoder.proofs.key.key.Tie as tie
 
+-- where the call began
+abbrev begun : tie.After-largest-byte → tie.Start
+begun c = c .before .before .before .before .before .before .before
+
+abbrev start-of : tie.After-first-odd → tie.Start
+start-of c = begun (c .before .before)
+
+largest-byte-requires : tie.Need-largest-byte-requires
+largest-byte-requires c κs = search needs
+
+-- Nothing is lit
+
+lose-requires : tie.Need-lose-requires
+lose-requires c κs = sym (begun (c .before .before) .pre .support-long)
+
+clear-requires : tie.Need-clear-requires
+clear-requires c κs = search needs
+
+same-length : tie.Need-same-length
+same-length c = search needs
+
+same-length-2 : tie.Need-same-length-2
+same-length-2 c = search needs
+
+returns : tie.Need-returns
+returns c =
+    let cleared = c .before .before in
+    let lost = cleared .before .before .before .before in
+    let test = lost .before .before in
+    let looked = test .before in
+    let start = begun looked in
+    unlit-keyed (start .args .growth) _ _ _ _ _ _ _ (start .pre) (looked .largest-byte .ensures) (test .if1 .taken) _ _ (lost .lose .ensures)
+    (cleared .clear .ensures)
+
+-- Something is
+
 first-odd-requires : tie.Need-first-odd-requires
 first-odd-requires c κs =
-    let start = c .before .before .before .before .before .before in
+    let start = begun (c .before) in
     searchable (start .args .growth) _ _ _ _ _ _ _ (start .pre)
 
 enum-known-v : tie.Need-enum-known-v
 enum-known-v c = search needs
 
-returns : tie.Need-returns
-returns c =
+returns-2 : tie.Need-returns-2
+returns-2 c =
     let looked = c .before .before .before in
-    let start = looked .before .before .before .before .before .before .before in
+    let start = start-of looked in
     shows-odd (start .args .growth) _ _ _ _ _ _ _ (start .pre) _ (looked .first-odd .ensures) _ (c .before .v .given .1)
 
 enum-told : tie.Need-enum-told
@@ -26,7 +62,7 @@ run-requires : tie.Need-run-requires
 run-requires c κs =
     let told = c .before in
     let looked = told .before .before in
-    let start = looked .before .before .before .before .before .before .before in
+    let start = start-of looked in
     runnable (start .args .growth) _ _ _ _ _ _ _ (start .pre) _ (looked .first-odd .ensures) (told .enum-told .given .1)
 
 labels-of-requires : tie.Need-labels-of-requires
@@ -34,7 +70,7 @@ labels-of-requires c κs =
     let ran = c .before .before .before .before .before in
     let told = ran .before .before in
     let looked = told .before .before in
-    let start = looked .before .before .before .before .before .before .before in
+    let start = start-of looked in
     nameable (start .args .growth) _ _ _ _ _ _ _ (start .pre) _ (looked .first-odd .ensures) (told .enum-told .given .1)
     _ _ (ran .run .ensures)
 
@@ -44,7 +80,7 @@ odd-ends-requires c κs =
     let ran = named .before .before .before .before .before .before in
     let told = ran .before .before in
     let looked = told .before .before in
-    let start = looked .before .before .before .before .before .before .before in
+    let start = start-of looked in
     markable (start .args .growth) _ _ _ _ _ _ _ (start .pre) _ (looked .first-odd .ensures) (told .enum-told .given .1)
     _ _ (ran .run .ensures) _ (named .labels-of .ensures)
 
@@ -58,7 +94,7 @@ slice-aggregate-peel c =
     let ran = named .before .before .before .before .before .before in
     let told = ran .before .before in
     let looked = told .before .before in
-    let start = looked .before .before .before .before .before .before .before in
+    let start = start-of looked in
     sym (front-long (start .args .growth) _ _ _ _ _ _ _ (start .pre) _ (looked .first-odd .ensures) (told .enum-told .given .1)
     _ _ (ran .run .ensures) _ (named .labels-of .ensures) _ (marked .odd-ends .ensures))
 
@@ -69,25 +105,25 @@ peel-requires c κs =
     let ran = named .before .before .before .before .before .before in
     let told = ran .before .before in
     let looked = told .before .before in
-    let start = looked .before .before .before .before .before .before .before in
+    let start = start-of looked in
     peelable (start .args .growth) _ _ _ _ _ _ _ (start .pre) _ (looked .first-odd .ensures) (told .enum-told .given .1)
     _ _ (ran .run .ensures) _ (named .labels-of .ensures) _ (marked .odd-ends .ensures)
 
-same-length : tie.Need-same-length
-same-length c = search needs
+same-length-3 : tie.Need-same-length-3
+same-length-3 c = search needs
 
-same-length-2 : tie.Need-same-length-2
-same-length-2 c = search needs
+same-length-4 : tie.Need-same-length-4
+same-length-4 c = search needs
 
-returns-2 : tie.Need-returns-2
-returns-2 c =
+returns-3 : tie.Need-returns-3
+returns-3 c =
     let peeled = c .before .before in
     let marked = peeled .before .before .before .before in
     let named = marked .before .before in
     let ran = named .before .before .before .before .before .before in
     let told = ran .before .before in
     let looked = told .before .before in
-    let start = looked .before .before .before .before .before .before .before in
+    let start = start-of looked in
     keyed (start .args .growth) _ _ _ _ _ _ _ (start .pre) _ (looked .first-odd .ensures) (told .enum-told .given .1)
     _ _ (ran .run .ensures) _ (named .labels-of .ensures) _ (marked .odd-ends .ensures)
     _ _ (peeled .peel .ensures)
@@ -96,9 +132,15 @@ pub key-spec : {M : Type 1} → statement M
 key-spec =
     tie.close
     (tie.spec
+    largest-byte-requires
+    lose-requires
+    clear-requires
+    same-length
+    same-length-2
+    returns
     first-odd-requires
     enum-known-v
-    returns
+    returns-2
     enum-told
     run-requires
     labels-of-requires
@@ -106,6 +148,6 @@ key-spec =
     array-share-prefix-lit
     slice-aggregate-peel
     peel-requires
-    same-length
-    same-length-2
-    returns-2)
+    same-length-3
+    same-length-4
+    returns-3)
