@@ -19,25 +19,24 @@ use Rattle.union_find.proofs.Compression.{compressed-trees, compressed-roots}
 use Rattle.decoder.specs.declared.book.Book.{Book}
 use Rattle.decoder.specs.declared.book.Found.{Found}
 use Rattle.decoder.specs.Figures.{names}
-use Rattle.decoder.specs.Merging.{Mergeable, Merges}
-use Rattle.decoder.specs.Books.{Good, together, ownLabels, KeepsTrue, Kept, Finds, BothKept, Unites, Fuses}
+use Rattle.decoder.specs.Merging.{figuresAfter, Mergeable}
+use Rattle.decoder.specs.Books.{lowsOf, Good, together, ownLabels, KeepsTrue, Kept, Finds, BothKept, Unites, Fuses}
 use Rattle.decoder.proofs.NameLaws.{names-kept, lows-kept}
 use Rattle.decoder.proofs.Uniting.{United, mergeable, united}
 
 -- a path compressed, and the root at its end
 pub finds : (b : Book) (v : ℕ) (p : List ℕ) (root : Vertex) → Kept b v → Compressed (b .parent) v (root .0) p
     → root .0 ≡ rootOf (b .parent) v
-    → Finds b v (record { book = record { vertices = b .vertices; parent = p; size = b .size; low = b .low; figure = b .figure }; root = root })
+    → Finds b v (record { book = record { vertices = b .vertices; parent = p; size = b .size; figure = b .figure }; root = root })
 finds b v p root k w is =
     record {
       good = record {
         trees = compressed-trees top w (k .good .trees);
-        lows = lows-kept (b .vertices) (b .parent) p (b .low) (compressed-roots top w (k .good .trees .climbs)) (k .good .lows);
+        lows = lows-kept (b .vertices) (b .parent) p (lowsOf b) (compressed-roots top w (k .good .trees .climbs)) (k .good .lows);
         figures-long = k .good .figures-long;
       };
       vertices = refl;
       sizes = refl;
-      lows = refl;
       figures = refl;
       roots = compressed-roots top w (k .good .trees .climbs);
       root = is;
@@ -102,24 +101,24 @@ module _ (b : Book) (x y : ℕ) (k : BothKept b x y) (f g : Found) (one : Finds 
         joins-same (other .good .trees) first-inside second-inside joins u v (omega (arith, same-count)) (omega (arith, same-count))
         ∙ rw (same-roots u hu, same-roots v hv, top-first, top-second)
 
-    pub fuse-mergeable : Mergeable j (g .book .low)
+    pub fuse-mergeable : Mergeable j (g .book .figure)
     fuse-mergeable =
-        mergeable (g .book .vertices) (g .book .parent) (g .book .size) (g .book .low) (g .book .figure) (other .good .trees) (other .good .lows)
+        mergeable (g .book .vertices) (g .book .parent) (g .book .size) (g .book .figure) (other .good .trees) (other .good .lows)
         (other .good .figures-long) (f .root .0) (g .root .0) first-inside second-inside j joins
 
-    module _ (low figure : List ℕ) (merges : Merges j (g .book .low) (g .book .figure) low figure) where
+    module _ (figure : List ℕ) (merges : figure ≡ figuresAfter j (g .book .figure)) where
       abbrev fused : Book
-      fused = record { vertices = g .book .vertices; parent = p; size = s; low = low; figure = figure }
+      fused = record { vertices = g .book .vertices; parent = p; size = s; figure = figure }
 
-      both : United (g .book .vertices) (g .book .parent) (g .book .size) (g .book .low) (g .book .figure) (other .good .trees) (other .good .lows) (other .good .figures-long) p low figure
+      both : United (g .book .vertices) (g .book .parent) (g .book .size) (g .book .figure) (other .good .trees) (other .good .lows) (other .good .figures-long) p figure
       both =
-          united (g .book .vertices) (g .book .parent) (g .book .size) (g .book .low) (g .book .figure) (other .good .trees) (other .good .lows)
+          united (g .book .vertices) (g .book .parent) (g .book .size) (g .book .figure) (other .good .trees) (other .good .lows)
           (other .good .figures-long) (f .root .0) (g .root .0) first-inside second-inside j joins merges
 
       -- the two finds change no name
-      same-names : names (g .book .vertices) (g .book .parent) (g .book .low) ≡ ownLabels b
+      same-names : names (g .book .vertices) (g .book .parent) (lowsOf (g .book)) ≡ ownLabels b
       same-names =
-          rw (other .lows ∙ one .lows, same-count) (names-kept (b .vertices) (b .parent) (g .book .parent) (b .low) same-roots)
+          rw (other .figures ∙ one .figures, same-count) (names-kept (b .vertices) (b .parent) (g .book .parent) (lowsOf b) same-roots)
 
       still-true : KeepsTrue b fused
       still-true =

@@ -1,12 +1,17 @@
 -- The arithmetic of figures: what a figure says can be read off it, and the sum of two figures is the figure of both. Assumes nothing.
 use Prim.Native.Nat.{ℕ, _+_, _/_, _%_, _<_}
-use mathlib.Core.Path.{_≡_, refl}
+use mathlib.Core.Path.{_≡_, refl, sym, _∙_}
+use mathlib.Core.Logic.{_≢_}
+use mathlib.Core.List.{List}
 use mathlib.Core.Bool.{Bool, true, false, cond, not, _&&_, _||_, false≢true}
 use native.Mathlib.Omega.{arith}
 use borrow.Author.Tests.{lt-ltb, le-ltb}
+use lib.ListN.{length, set, length-set}
+use lib.Seq.{getD-set-same, getD-set-other}
 use lib.Dec.{eqb, ltb}
+use Rattle.union_find.specs.Trees.{at}
 use Rattle.model.specs.Sums.{_⊕_, bit}
-use Rattle.decoder.specs.Figures.{evenMark, openMark, figureOf, plusFigure}
+use Rattle.decoder.specs.Figures.{evenMark, openMark, figureOf, noFigure, plusFigure, carried}
 
 module _ (x : ℕ) (small : x < evenMark) where
   -- the boundary size, and whether it is one of an even number, and of an open vertex
@@ -76,3 +81,18 @@ plus-figures x y few a b c d =
       both-even a c,
       either-open b d,
     )
+
+-- The carried figures
+
+module _ (figure : List ℕ) (j k : ℕ) where
+  pub carried-to : j ≢ k → k < length figure → at (carried figure j k) k ≡ plusFigure (at figure j) (at figure k)
+  carried-to apart h = getD-set-other (set figure k _) j k noFigure 0 (λ q. apart (sym q)) ∙ getD-set-same figure k _ 0 h
+
+  pub carried-from : j < length figure → at (carried figure j k) j ≡ noFigure
+  carried-from h = getD-set-same (set figure k _) j noFigure 0 (simp length-set h)
+
+  pub carried-beside : (a : ℕ) → a ≢ j → a ≢ k → at (carried figure j k) a ≡ at figure a
+  carried-beside a p q = getD-set-other (set figure k _) j a noFigure 0 p ∙ getD-set-other figure k a _ 0 q
+
+  pub carried-long : length (carried figure j k) ≡ length figure
+  carried-long = simp length-set refl

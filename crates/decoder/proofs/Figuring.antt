@@ -1,5 +1,5 @@
 -- Figures by the definition, and figures by the counts of ends: the same, where the counts are those of the supports. Assumes nothing.
-use Prim.Native.Nat.{ℕ, _+_, _≤_}
+use Prim.Native.Nat.{ℕ, _+_, _≤_, _<_}
 use mathlib.Core.Path.{_≡_, sym, ap, _∙_}
 use mathlib.Core.Bool.{cond, _&&_}
 use mathlib.Core.List.{List}
@@ -9,14 +9,19 @@ use Rattle.model.specs.Board.{Board, unmarked, vertexLimit}
 use Rattle.model.specs.Components.{within}
 use Rattle.model.specs.Growth.{full, oddlyLit, holdsOpen, exposed, boundary}
 use Rattle.model.proofs.SumLaws.{count-cong}
-use Rattle.decoder.specs.Figures.{evenMark, openMark, figureOf, Keeps, Figured}
+use Rattle.decoder.specs.Figures.{evenMark, openMark, figureOf, nameMark, Keeps, Figured}
 use Rattle.decoder.specs.Exposures.{Exposures, counted}
 use Rattle.decoder.specs.Shutting.{sized}
+use Rattle.decoder.proofs.NamesTold.{marks-small}
 use Rattle.decoder.proofs.EndCounts.{counted-exposed}
 
 -- what a figure says beside the boundary size
 pub beside : Board → Set → List ℕ → ℕ → ℕ
 beside B S l a = cond (oddlyLit B l S a) 0 evenMark + cond (holdsOpen B l a) openMark 0
+
+pub beside-small : (B : Board) (S : Set) (l : List ℕ) (a : ℕ) → beside B S l a + vertexLimit < nameMark
+unfolding beside
+beside-small B S l a = marks-small (oddlyLit B l S a) (holdsOpen B l a)
 
 module _ (n m : ℕ) (ends opened : List ℕ) (few : n ≤ vertexLimit) (S : Set) (s x l figure : List ℕ) (w : Exposures m ends (full s) x) where
   abbrev B : Board

@@ -17,7 +17,7 @@ use Rattle.decoder.specs.declared.book.Book.{Book}
 use Rattle.decoder.specs.Gains.{listed, withListed}
 use Rattle.decoder.specs.TreeLabels.{BothRooted}
 use Rattle.decoder.specs.Rings.{Rings, BothNamed, JoinsRings}
-use Rattle.decoder.specs.Books.{Good, together, KeepsTrue, BothKept, Unites, FusesListed}
+use Rattle.decoder.specs.Books.{lowsOf, Good, together, KeepsTrue, BothKept, Unites, FusesListed}
 use Rattle.decoder.proofs.RingLaws.{rings-united}
 use Rattle.theory.proofs.MarksAside.{unmarked-inside}
 use Rattle.theory.proofs.JoinedLabels.{joinedBy, Adds, added-edge}
@@ -82,7 +82,7 @@ module _ (b : Book) (u v : ℕ) (w : BothKept b u v) where
         second = w .second;
       }
 
-  pub both-named : BothNamed (b .parent) (b .low) u v
+  pub both-named : BothNamed (b .parent) (lowsOf b) u v
   both-named =
       record {
         vertices = b .vertices;
@@ -92,9 +92,9 @@ module _ (b : Book) (u v : ℕ) (w : BothKept b u v) where
       }
 
   -- they were apart: their rings are joined, and then their clusters fused
-  pub joined-rings : (t : Bool) → t ≡ not (together b u v) → t ≡ true → (x ring ring′ : List ℕ) → JoinsRings (b .parent) (b .low) u v ring ring′
-      → (b′ : Book) → Unites b u v b′ → Rings (b .vertices) (b .parent) (b .low) x ring
-      → Rings (b′ .vertices) (b′ .parent) (b′ .low) x ring′
+  pub joined-rings : (t : Bool) → t ≡ not (together b u v) → t ≡ true → (x ring ring′ : List ℕ) → JoinsRings (b .parent) (lowsOf b) u v ring ring′
+      → (b′ : Book) → Unites b u v b′ → Rings (b .vertices) (b .parent) (lowsOf b) x ring
+      → Rings (b′ .vertices) (b′ .parent) (lowsOf b′) x ring′
   joined-rings t p q x ring ring′ j b′ f rings = rw (j .exchanges) (rings-united b x ring u v b′ (w .good) (w .first) (w .second) differ f rings)
     where
       go : (e : Bool) → t ≡ not e → e ≡ false

@@ -25,8 +25,9 @@ use Rattle.decoder.specs.declared.book.Book.{Book}
 use Rattle.decoder.specs.Exposures.{counted}
 use Rattle.decoder.specs.Figures.{Lows, nameOf, names, Leads, Figured}
 use Rattle.decoder.specs.Rings.{Rings}
-use Rattle.decoder.specs.Books.{Good, TrueBook, ownLabels, KeepsTrue, Fresh, Gatherable, BothKept, Unites}
+use Rattle.decoder.specs.Books.{lowsOf, Good, TrueBook, ownLabels, KeepsTrue, Fresh, Gatherable, BothKept, Unites}
 use Rattle.decoder.proofs.NameLaws.{names-label, names-are}
+use Rattle.decoder.proofs.NamesTold.{told-long, lone-told}
 use Rattle.decoder.proofs.EndCounts.{counted-exposed}
 use Rattle.decoder.proofs.RingLaws.{rings-alone}
 use Rattle.decoder.proofs.Fusing.{keeps-on}
@@ -47,8 +48,8 @@ module _ (n : ℕ) (ends opened syndrome s x ring : List ℕ) (g : Gatherable n 
   abbrev S : Set
   S = ones syndrome
 
-  own-name : (v : ℕ) → v < n → nameOf (b .parent) (b .low) v ≡ v
-  own-name v h = ap (at (b .low)) (alone-root (w .alone) v h) ∙ ap (λ z. at z v) (w .lows) ∙ w .alone .own v h
+  own-name : (v : ℕ) → v < n → nameOf (b .parent) (lowsOf b) v ≡ v
+  own-name = lone-told (g .lent .vertex-limit) (w .alone) (w .figures)
 
   fresh-good : Good b
   fresh-good =
@@ -56,7 +57,7 @@ module _ (n : ℕ) (ends opened syndrome s x ring : List ℕ) (g : Gatherable n 
       record {
         trees = alone-trees (w .alone);
         lows = record {
-          long = rw (w .lows) (w .alone .room .parents);
+          long = omega (arith, told-long (b .figure), g .lent .vertex-limit);
           below = λ v h. rw (own-name v h) (omega arith);
           same = λ v h. ap (rootOf (b .parent)) (own-name v h);
         };
@@ -67,7 +68,7 @@ module _ (n : ℕ) (ends opened syndrome s x ring : List ℕ) (g : Gatherable n 
   l = ownLabels b
 
   own-label : (v : ℕ) → v < n → label l v ≡ v
-  own-label v h = rw (w .vertices) (names-label n (b .parent) (b .low) v h ∙ own-name v h)
+  own-label v h = rw (w .vertices) (names-label n (b .parent) (lowsOf b) v h ∙ own-name v h)
 
   alone-here : (a : ℕ) → a < n → within l a a ≡ true
   alone-here a h = eq-eqb _ _ (own-label a h)
@@ -102,7 +103,7 @@ module _ (n : ℕ) (ends opened syndrome s x ring : List ℕ) (g : Gatherable n 
               let h = lead .below in
               w .figures .each a h ∙ sym (rw (boundary-one a h, lit-one a h, open-one a h));
           others = λ a h none.
-              w .figures .others a (omega (arith, not-below a none)) h;
+              omega (arith, w .figures .others a (omega (arith, not-below a none)) h);
         };
       }
     where
@@ -110,8 +111,8 @@ module _ (n : ℕ) (ends opened syndrome s x ring : List ℕ) (g : Gatherable n 
       not-below a none h = none (record { below = h; own = own-label a h })
 
   -- the rings of lone vertices
-  pub fresh-rings : Rings (b .vertices) (b .parent) (b .low) x ring
-  fresh-rings = rw (w .vertices) (rings-alone n (b .parent) (b .low) x ring (alone-root (w .alone)) (g .rings))
+  pub fresh-rings : Rings (b .vertices) (b .parent) (lowsOf b) x ring
+  fresh-rings = rw (w .vertices) (rings-alone n (b .parent) (lowsOf b) x ring (alone-root (w .alone)) (g .rings))
 
   -- The full edges are fused
 
@@ -161,11 +162,11 @@ module _ (n : ℕ) (ends opened syndrome s x ring : List ℕ) (g : Gatherable n 
         vertices = u .vertices;
         good = u .good;
         mirrors = all;
-        figures = rw (names-are B (full s) (unmarked-inside (g .lent)) all lows-here) (subst (λ i. Figured B S s (names i (now .parent) (now .low)) (now .figure)) (u .vertices) (u .true-still .figures B S s (sym (w .vertices)) fresh-figured));
+        figures = rw (names-are B (full s) (unmarked-inside (g .lent)) all lows-here) (subst (λ i. Figured B S s (names i (now .parent) (lowsOf now)) (now .figure)) (u .vertices) (u .true-still .figures B S s (sym (w .vertices)) fresh-figured));
       }
     where
       all : Mirrors n (now .parent) (clusters B s)
       all = rw (length-replicate {A = ℕ} (length s) 0) (u .mirrors)
 
-      lows-here : Lows n (now .parent) (now .low)
-      lows-here = subst (λ i. Lows i (now .parent) (now .low)) (u .vertices) (u .good .lows)
+      lows-here : Lows n (now .parent) (lowsOf now)
+      lows-here = subst (λ i. Lows i (now .parent) (lowsOf now)) (u .vertices) (u .good .lows)

@@ -44,20 +44,20 @@ module _ (n : ℕ) (p s low : List ℕ) (x y : ℕ) (t : Trees n p s) (two : Two
   lead-y = rw (← name-y) (name-leads n p low w y (two .y-inside))
 
   -- a name lies in its own tree
-  of-x : rootOf p (at low x) ≡ x
+  pub of-x : rootOf p (at low x) ≡ x
   of-x = ap (rootOf p) (sym name-x) ∙ w .same x (two .x-inside) ∙ root-x
 
-  of-y : rootOf p (at low y) ≡ y
+  pub of-y : rootOf p (at low y) ≡ y
   of-y = ap (rootOf p) (sym name-y) ∙ w .same y (two .y-inside) ∙ root-y
 
-  names-apart : at low x ≢ at low y
+  pub names-apart : at low x ≢ at low y
   names-apart q = two .apart (sym of-x ∙ ap (rootOf p) q ∙ of-y)
 
   -- another tree has another name
   other-name : (v z : ℕ) → v < n → rootOf p v ≢ z → (a : ℕ) → rootOf p a ≡ z → nameOf p low v ≢ a
   other-name v z h differ a is q = differ (sym (w .same v h) ∙ ap (rootOf p) q ∙ is)
 
-  root-after : (v : ℕ) → v < n → rootOf (hung p x y) v ≡ moved x y (rootOf p v)
+  pub root-after : (v : ℕ) → v < n → rootOf (hung p x y) v ≡ moved x y (rootOf p v)
   root-after = hung-root t two
 
   -- The tree that is hung has the smaller name

@@ -6,8 +6,10 @@ pub mod EndMarking
 pub mod Policies
 pub mod FigureLaws
 pub mod NameLaws
+pub mod NamesTold
 pub mod MergedFigures
 pub mod HungNames
+pub mod HungTold
 pub mod Uniting
 pub mod BookLaws
 pub mod PassLaws

@@ -8,7 +8,7 @@ use mathlib.Core.List.{List}
 use native.Mathlib.Decide.{ℕ-discrete}
 use native.Mathlib.Omega.{arith}
 use borrow.Author.Tests.{eqb-true}
-use lib.ListN.{length, set, length-set}
+use lib.ListN.{length, set}
 use lib.Seq.{getD-set-same, getD-set-other}
 use lib.Dec.{eqb}
 use Rattle.model.specs.Sums.{Set, _⊕_, bit}
@@ -19,8 +19,8 @@ use Rattle.model.proofs.SumLaws.{odd-cong, odd-xor, count-cong, count-bound, so
 use Rattle.model.proofs.CountLaws.{count-parts}
 use Rattle.union_find.specs.Trees.{at, moved}
 use Rattle.union_find.proofs.Moved.{moved-here, moved-other, moved-target, moved-elsewhere}
-use Rattle.decoder.specs.Figures.{figureOf, noFigure, plusFigure, carried, Leads, Keeps, Figured}
-use Rattle.decoder.proofs.FigureLaws.{plus-figures}
+use Rattle.decoder.specs.Figures.{figureOf, nameMark, noFigure, plusFigure, carried, Leads, Keeps, Figured}
+use Rattle.decoder.proofs.FigureLaws.{plus-figures, carried-to, carried-from, carried-beside}
 
 -- two that do not both hold
 data Side (a b : Bool) : Type 0 where
@@ -80,13 +80,13 @@ module _ (B : Board) (l l′ : List ℕ) (j k : ℕ) (moves : (v : ℕ) → v < 
 
   module _ (figure : List ℕ) (long : length figure ≡ vertexLimit) (few : n ≤ vertexLimit) where
     at-k : at (carried figure j k) k ≡ plusFigure (at figure j) (at figure k)
-    at-k = getD-set-other (set figure k _) j k noFigure 0 (λ q. apart (sym q)) ∙ getD-set-same figure k _ 0 (omega (arith, lead-k .below))
+    at-k = carried-to figure j k apart (omega (arith, lead-k .below))
 
     at-j : at (carried figure j k) j ≡ noFigure
-    at-j = getD-set-same (set figure k _) j noFigure 0 (simp length-set (omega (arith, lead-j .below)))
+    at-j = carried-from figure j k (omega (arith, lead-j .below))
 
     at-other : (a : ℕ) → a ≢ j → a ≢ k → at (carried figure j k) a ≡ at figure a
-    at-other a p q = getD-set-other (set figure k _) j a noFigure 0 p ∙ getD-set-other figure k a _ 0 q
+    at-other = carried-beside figure j k
 
     -- where f says of both what the sum of the figures says, and of the others what it said
     keeps-carried : (f f′ : ℕ → ℕ) → plusFigure (f j) (f k) ≡ f′ k → ((a : ℕ) → a ≢ j → a ≢ k → f a ≡ f′ a)
@@ -101,11 +101,12 @@ module _ (B : Board) (l l′ : List ℕ) (j k : ℕ) (moves : (v : ℕ) → v < 
               | no q ↦ at-other a (before .0) q ∙ w .named a (before .1) ∙ same a (before .0) q
             ]
 
-        others : (a : ℕ) → a < vertexLimit → (Leads n l′ a → ⊥) → at (carried figure j k) a ≡ noFigure
+        others : (a : ℕ) → a < vertexLimit → (Leads n l′ a → ⊥) → nameMark ≤ at (carried figure j k) a
         others a h none = elim (ℕ-discrete a j) [
-          | yes q ↦ rw q at-j
+          | yes q ↦ rw (q, at-j) (omega arith)
           | no q ↦
-              at-other a q (λ is. none (rw is (leads-after k (λ e. apart (sym e)) lead-k))) ∙ w .others a h (λ lead. none (leads-after a q lead))
+              rw (at-other a q (λ is. none (rw is (leads-after k (λ e. apart (sym e)) lead-k))))
+              (w .others a h (λ lead. none (leads-after a q lead)))
         ]
 
     -- What the definitions say
@@ -158,3 +159,17 @@ module _ (B : Board) (l l′ : List ℕ) (j k : ℕ) (moves : (v : ℕ) → v < 
                 ∙ sym (rw (boundary-both, lit-both, open-both)))
                 other-same (w .kept);
           }
+
+-- by a number that names no cluster something else may stand that is no figure
+pub figured-told : (B : Board) (S : Set) (s l figure : List ℕ) (y z : ℕ) → y < length figure → (Leads (B .vertices) l y → ⊥) → nameMark ≤ z
+    → Figured B S s l figure → Figured B S s l (set figure y z)
+figured-told B S s l figure y z h none large w =
+    record {
+      kept = record {
+        named = λ a lead. getD-set-other figure y a z 0 (λ q. none (rw (← q) lead)) ∙ w .kept .named a lead;
+        others = λ a k out. elim (ℕ-discrete a y) [
+          | yes q ↦ rw (q, getD-set-same figure y z 0 h) large
+          | no q ↦ rw (getD-set-other figure y a z 0 q) (w .kept .others a k out)
+        ];
+      };
+    }

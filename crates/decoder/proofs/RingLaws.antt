@@ -18,7 +18,7 @@ use Rattle.decoder.specs.declared.book.Book.{Book}
 use Rattle.decoder.specs.Exposures.{counted}
 use Rattle.decoder.specs.Figures.{nameOf}
 use Rattle.decoder.specs.Rings.{Passes, times, Ring, Rings, LoneRings, exchanged}
-use Rattle.decoder.specs.Books.{Good, Unites}
+use Rattle.decoder.specs.Books.{lowsOf, Good, Unites}
 use Rattle.decoder.proofs.NameLaws.{name-below}
 use Rattle.decoder.proofs.PassLaws.{times-here, times-other, times-cons, times-none, times-append, passes-append, passes-same, Step, step-round}
 
@@ -177,7 +177,7 @@ some-of true b c h = inl refl
 some-of false true c h = inr refl
 some-of false false c h = inl h
 
-module _ (b : Book) (x ring : List ℕ) (u v : ℕ) (b′ : Book) (good : Good b) (hu : u < b .vertices) (hv : v < b .vertices) (apart : sameRoot (b .parent) u v ≡ false) (f : Unites b u v b′) (w : Rings (b .vertices) (b .parent) (b .low) x ring) where
+module _ (b : Book) (x ring : List ℕ) (u v : ℕ) (b′ : Book) (good : Good b) (hu : u < b .vertices) (hv : v < b .vertices) (apart : sameRoot (b .parent) u v ≡ false) (f : Unites b u v b′) (w : Rings (b .vertices) (b .parent) (lowsOf b) x ring) where
   abbrev n : ℕ
   n = b .vertices
 
@@ -188,10 +188,10 @@ module _ (b : Book) (x ring : List ℕ) (u v : ℕ) (b′ : Book) (good : Good b
   P′ = b′ .parent
 
   abbrev p : ℕ
-  p = nameOf P (b .low) u
+  p = nameOf P (lowsOf b) u
 
   abbrev q : ℕ
-  q = nameOf P (b .low) v
+  q = nameOf P (lowsOf b) v
 
   abbrev ring′ : List ℕ
   ring′ = exchanged ring p q
@@ -203,10 +203,10 @@ module _ (b : Book) (x ring : List ℕ) (u v : ℕ) (b′ : Book) (good : Good b
   root-q = good .lows .same v hv
 
   below-p : p < n
-  below-p = name-below n P (b .low) (good .lows) u hu
+  below-p = name-below n P (lowsOf b) (good .lows) u hu
 
   below-q : q < n
-  below-q = name-below n P (b .low) (good .lows) v hv
+  below-q = name-below n P (lowsOf b) (good .lows) v hv
 
   roots-differ : rootOf P u ≢ rootOf P v
   roots-differ = eqb-false (rootOf P u) (rootOf P v) apart
@@ -256,19 +256,19 @@ module _ (b : Book) (x ring : List ℕ) (u v : ℕ) (b′ : Book) (good : Good b
   root-q′ = stays q v below-q hv root-q ∙ one-now
 
   -- a smallest vertex was one before
-  led : (a : ℕ) → a < n → nameOf P′ (b′ .low) a ≡ a → nameOf P (b .low) a ≡ a
+  led : (a : ℕ) → a < n → nameOf P′ (lowsOf b′) a ≡ a → nameOf P (lowsOf b) a ≡ a
   led a h named =
-      let c = nameOf P (b .low) a in
-      let hc = name-below n P (b .low) (good .lows) a h in
+      let c = nameOf P (lowsOf b) a in
+      let hc = name-below n P (lowsOf b) (good .lows) a h in
       let root : rootOf P′ c ≡ rootOf P′ a = stays c a hc h (good .lows .same a h) in
-      let least : nameOf P′ (b′ .low) c ≤ c = f .good .lows .below c (omega (arith, hc, f .vertices)) in
-      le-antisymm (good .lows .below a h) (omega (arith, least, ap (at (b′ .low)) root, named))
+      let least : nameOf P′ (lowsOf b′) c ≤ c = f .good .lows .below c (omega (arith, hc, f .vertices)) in
+      le-antisymm (good .lows .below a h) (omega (arith, least, ap (at (lowsOf b′)) root, named))
 
   ring-p : Ring n P x ring p
-  ring-p = w .each p below-p (ap (at (b .low)) root-p)
+  ring-p = w .each p below-p (ap (at (lowsOf b)) root-p)
 
   ring-q : Ring n P x ring q
-  ring-q = w .each q below-q (ap (at (b .low)) root-q)
+  ring-q = w .each q below-q (ap (at (lowsOf b)) root-q)
 
   swap : {A C : Type 0} → A ⊎ C → C ⊎ A
   swap s = ⊎-elim (λ a. inr a) (λ c. inl c) s
@@ -286,7 +286,7 @@ module _ (b : Book) (x ring : List ℕ) (u v : ℕ) (b′ : Book) (good : Good b
       (λ z h e. rw (root-p, root-q) (swap (united z h (e ∙ root-q′))))
 
   -- a cluster that is none of the two keeps its ring
-  kept-ring : (a : ℕ) → a < n → nameOf P (b .low) a ≡ a → rootOf P′ a ≢ rootOf P′ u → Ring n P′ x ring′ a
+  kept-ring : (a : ℕ) → a < n → nameOf P (lowsOf b) a ≡ a → rootOf P′ a ≢ rootOf P′ u → Ring n P′ x ring′ a
   kept-ring a h named differ =
       let r = w .each a h named in
       let out : (z : ℕ) → rootOf P′ z ≡ rootOf P′ u → 1 ≤ times z (r .round) → ⊥ =
@@ -312,16 +312,16 @@ module _ (b : Book) (x ring : List ℕ) (u v : ℕ) (b′ : Book) (good : Good b
           go false false true c e g k y = absurd (differ (sym same ∙ stays z v i hv (eqb-true (rootOf P z) (rootOf P v) k) ∙ one-now))
           go false false false c e g k y = absurd (false≢true y)
 
-  ring-now : (a : ℕ) → a < n → nameOf P′ (b′ .low) a ≡ a → Ring n P′ x ring′ a
+  ring-now : (a : ℕ) → a < n → nameOf P′ (lowsOf b′) a ≡ a → Ring n P′ x ring′ a
   ring-now a h named =
       let was = led a h named in
       elim (ℕ-discrete (rootOf P′ a) (rootOf P′ u)) [
         | no e ↦ kept-ring a h was e
         | yes e ↦ ⊎-elim
-            (λ i. subst (Ring n P′ x ring′) (sym (ap (at (b .low)) i) ∙ was) joined-p)
-            (λ i. subst (Ring n P′ x ring′) (sym (ap (at (b .low)) i) ∙ was) joined-q)
+            (λ i. subst (Ring n P′ x ring′) (sym (ap (at (lowsOf b)) i) ∙ was) joined-p)
+            (λ i. subst (Ring n P′ x ring′) (sym (ap (at (lowsOf b)) i) ∙ was) joined-q)
             (united a h e)
       ]
 
-  pub rings-united : Rings (b′ .vertices) (b′ .parent) (b′ .low) x (exchanged ring p q)
+  pub rings-united : Rings (b′ .vertices) (b′ .parent) (lowsOf b′) x (exchanged ring p q)
   rings-united = rw (f .vertices) record { long = simp length-set (w .long); each = ring-now }

@@ -14,14 +14,15 @@ use lib.Dec.{eqb, ltb}
 use Rattle.model.specs.Sums.{Set, bit, someUpTo}
 use Rattle.model.specs.Board.{vertexLimit}
 use Rattle.model.specs.Components.{within}
-use Rattle.model.proofs.SumLaws.{count-cong, none-some}
+use Rattle.model.proofs.SumLaws.{count-bound, count-cong, none-some}
 use Rattle.model.proofs.CountLaws.{count-before, count-more}
 use Rattle.union_find.specs.Trees.{at}
 use Rattle.decoder.specs.Gains.{listed, withListed}
-use Rattle.decoder.specs.Figures.{nameOf, names, Figurable, noFigure, Leads, Keeps}
+use Rattle.decoder.specs.Figures.{nameMark, namesBy, nameOf, names, Figurable, Leads, Keeps}
 use Rattle.decoder.specs.Exposures.{counted}
 use Rattle.decoder.specs.Shutting.{sized, Shuttable, Shuts, ListShuttable, ShutUpTo}
 use Rattle.decoder.proofs.NameLaws.{names-label, name-leads}
+use Rattle.decoder.proofs.NamesTold.{told-still}
 use Rattle.decoder.proofs.EndCounts.{ends-cong, one-fewer, first-left, second-left, ends-fewer}
 
 -- One end
@@ -98,8 +99,8 @@ module _ (n : ℕ) (p low x figure : List ℕ) (rest : ℕ → ℕ) (named : Fig
             ]))
       ]
 
-      others : (b : ℕ) → b < vertexLimit → (Leads n l b → ⊥) → at (set figure a (at figure a - 1)) b ≡ noFigure
-      others b k none = getD-set-other figure a b (at figure a - 1) 0 (λ q. none (rw q lead)) ∙ w .others b k none
+      others : (b : ℕ) → b < vertexLimit → (Leads n l b → ⊥) → nameMark ≤ at (set figure a (at figure a - 1)) b
+      others b k none = rw (getD-set-other figure a b (at figure a - 1) 0 (λ q. none (rw q lead))) (w .others b k none)
 
   -- another end stays: so does v
   end-left : at x v ≢ 1 → Keeps n l (sized n l (counted x′) rest) figure
@@ -124,6 +125,18 @@ module _ (n : ℕ) (p low x figure : List ℕ) (rest : ℕ → ℕ) (named : Fig
       go true = simp length-set (named .long)
       go false = named .long
 
+  -- what was a figure is one, so that no name has changed
+  shut-told : ((b : ℕ) → rest b + vertexLimit < nameMark) → {x″ figure″ : List ℕ} → Shuts p low v x figure x″ figure″
+      → namesBy figure″ ≡ namesBy figure
+  shut-told small s = rw (s .figures) (go (eqb (at x v) 1))
+    where
+      figure-small : at figure a < nameMark
+      figure-small = omega (arith, w .named a lead, count-bound n (λ u. within l a u && counted x u), few, small a)
+
+      go : (t : Bool) → namesBy (cond t (set figure a (at figure a - 1)) figure) ≡ namesBy figure
+      go true = told-still figure a (at figure a - 1) figure-small (omega (arith, figure-small)) (omega (arith, few, named .long, lead .below))
+      go false = refl
+
   shut-keeps : {x″ figure″ : List ℕ} → Shuts p low v x figure x″ figure″ → Keeps n l (sized n l (counted x″) rest) figure″
   shut-keeps s = rw (s .counts, s .figures) (go (eqb (at x v) 1) refl)
     where
@@ -146,6 +159,7 @@ module _ {p low ends filled : List ℕ} {k : ℕ} {x₀ figure₀ : List ℕ} (w
   shut-none =
       record {
         long = w .named .long;
+        told = w .told;
         counts = ends-cong (w .edges) ends (w .full) (withListed (w .full) 0 filled) x₀ (λ e h. sym (or-false (w .full e))) (w .counts);
         figures = w .figures;
       }
@@ -194,10 +208,17 @@ module _ {p low ends filled : List ℕ} {k : ℕ} {x₀ figure₀ : List ℕ} (w
     first-end-left : 1 ≤ at x first
     first-end-left = first-left (w .edges) ends F G x e edge not-yet adds (u .counts) (omega (arith, first-inside, few-vertices))
 
-    pub shut-first : Shuttable p low first x figure
-    shut-first = shuttable n p low x figure (w .rest) named-now (u .counts .long) first first-inside first-end-left (u .figures)
+    pub shut-first : Shuttable p (namesBy figure) first x figure
+    shut-first = rw (u .told) (shuttable n p low x figure (w .rest) named-now (u .counts .long) first first-inside first-end-left (u .figures))
 
-    module _ (x₁ figure₁ : List ℕ) (one : Shuts p low first x figure x₁ figure₁) where
+    module _ (x₁ figure₁ : List ℕ) (shut-one : Shuts p (namesBy figure) first x figure x₁ figure₁) where
+      one : Shuts p low first x figure x₁ figure₁
+      one = rw (u .told) at shut-one
+
+      told₁ : namesBy figure₁ ≡ low
+      told₁ =
+          shut-told n p low x figure (w .rest) named-now (u .counts .long) first first-inside first-end-left (u .figures) (w .small) one ∙ u .told
+
       long₁ : length x₁ ≡ vertexLimit
       long₁ = rw (one .counts) (simp length-set (u .counts .long))
 
@@ -217,13 +238,15 @@ module _ {p low ends filled : List ℕ} {k : ℕ} {x₀ figure₀ : List ℕ} (w
           rw (one .counts)
           (second-left (w .edges) ends F G x e edge not-yet adds (u .counts) (omega (arith, first-inside, few-vertices)) (omega (arith, second-inside, few-vertices)))
 
-      pub shut-second : Shuttable p low second x₁ figure₁
-      shut-second = shuttable n p low x₁ figure₁ (w .rest) named₁ long₁ second second-inside second-end-left figures₁
+      pub shut-second : Shuttable p (namesBy figure₁) second x₁ figure₁
+      shut-second = rw told₁ (shuttable n p low x₁ figure₁ (w .rest) named₁ long₁ second second-inside second-end-left figures₁)
 
-      pub shut-next : (x₂ figure₂ : List ℕ) → Shuts p low second x₁ figure₁ x₂ figure₂ → ShutUpTo w (suc i) x₂ figure₂
-      shut-next x₂ figure₂ two =
+      pub shut-next : (x₂ figure₂ : List ℕ) → Shuts p (namesBy figure₁) second x₁ figure₁ x₂ figure₂ → ShutUpTo w (suc i) x₂ figure₂
+      shut-next x₂ figure₂ shut-two =
+          let two : Shuts p low second x₁ figure₁ x₂ figure₂ = rw told₁ at shut-two in
           record {
             long = shut-long n p low x₁ figure₁ (w .rest) named₁ long₁ second second-inside second-end-left figures₁ two;
+            told = shut-told n p low x₁ figure₁ (w .rest) named₁ long₁ second second-inside second-end-left figures₁ (w .small) two ∙ told₁;
             counts =
                 rw (two .counts, one .counts)
                 (ends-fewer (w .edges) ends F G x e edge not-yet adds (u .counts) (omega (arith, first-inside, few-vertices)) (omega (arith, second-inside, few-vertices)));

@@ -14,7 +14,7 @@ use Rattle.union_find.specs.declared.Joined.the-variants.{Hung}
 use Rattle.union_find.specs.Trees.{at, rootOf, Trees, Alone, Compressed}
 use Rattle.union_find.specs.Joining.{joined, sameRoot, Mirrors}
 use Rattle.decoder.specs.Gains.{Supports, withListed}
-use Rattle.decoder.specs.Figures.{Lows, nameOf, names, Figured}
+use Rattle.decoder.specs.Figures.{namesBy, Lows, nameOf, names, Figured}
 use Rattle.decoder.specs.Exposures.{Exposures}
 use Rattle.decoder.specs.LoneFigures.{LoneFigures}
 use Rattle.decoder.specs.EndLists.{EndLists}
@@ -26,10 +26,14 @@ use Rattle.decoder.specs.declared.book.Found.{Found}
 use Rattle.decoder.specs.declared.book.Fused.{Fused}
 use Rattle.decoder.specs.declared.book.Grown.{Grown}
 
+-- the names of its trees, as they are told beside the figures
+abbrev pub lowsOf : Book → List ℕ
+lowsOf b = namesBy (b .figure)
+
 -- the book's arrays are trees of its vertices, named by their smallest vertices, and there is a figure for each name
 pub record Good (b : Book) : Type 0 where
   pub trees : Trees (b .vertices) (b .parent) (b .size)
-  pub lows : Lows (b .vertices) (b .parent) (b .low)
+  pub lows : Lows (b .vertices) (b .parent) (lowsOf b)
   pub figures-long : length (b .figure) ≡ vertexLimit
 
 -- two of its vertices are in one cluster
@@ -38,7 +42,7 @@ together b u v = sameRoot (b .parent) u v
 
 -- its own clusters, as labels
 abbrev pub ownLabels : Book → List ℕ
-ownLabels b = names (b .vertices) (b .parent) (b .low)
+ownLabels b = names (b .vertices) (b .parent) (lowsOf b)
 
 -- Document 02, K6: the book of the supports s. Its clusters are theirs, and with each is kept its boundary size at s.
 pub record TrueBook (B : Board) (S : Set) (s : List ℕ) (b : Book) : Type 0 where
@@ -58,7 +62,6 @@ pub record KeepsTrue (b b′ : Book) : Type 0 where
 pub record Fresh (n : ℕ) (opened syndrome x : List ℕ) (b : Book) : Type 0 where
   pub vertices : b .vertices ≡ n
   pub alone : Alone n (b .parent) (b .size)
-  pub lows : b .low ≡ b .parent
   pub figures : LoneFigures n opened syndrome x (b .figure)
 
 -- the counts are those of the supports, and each vertex has a ring of its own
@@ -72,7 +75,7 @@ pub record Gatherable (n : ℕ) (ends opened syndrome s x ring : List ℕ) : Typ
 -- the book of the supports, and the rings of its clusters
 pub record Gathers (B : Board) (S : Set) (s x : List ℕ) (b : Book) (ring : List ℕ) : Type 0 where
   pub book : TrueBook B S s b
-  pub rings : Rings (b .vertices) (b .parent) (b .low) x ring
+  pub rings : Rings (b .vertices) (b .parent) (lowsOf b) x ring
 
 -- v is one of the book's vertices
 pub record Kept (b : Book) (v : ℕ) : Type 0 where
@@ -84,7 +87,6 @@ pub record Finds (b : Book) (v : ℕ) (r : Found) : Type 0 where
   pub good : Good (r .book)
   pub vertices : r .book .vertices ≡ b .vertices
   pub sizes : r .book .size ≡ b .size
-  pub lows : r .book .low ≡ b .low
   pub figures : r .book .figure ≡ b .figure
   pub roots : (u : ℕ) → u < b .vertices → rootOf (r .book .parent) u ≡ rootOf (b .parent) u
   pub root : r .root .0 ≡ rootOf (b .parent) v
@@ -129,7 +131,7 @@ pub record Growable (b : Book) (ends latest earlier : List ℕ) (r : Growing) (s
   pub supports : Supports s
   pub room : length filled ≡ edgeLimit
   pub counts : Exposures (length s) ends (full s) x
-  pub rings : Rings (b .vertices) (b .parent) (b .low) x ring
+  pub rings : Rings (b .vertices) (b .parent) (lowsOf b) x ring
   pub opened : List ℕ
   pub lit : Set
   pub book : TrueBook (unmarked (b .vertices) (length s) ends opened) lit s b
@@ -138,11 +140,11 @@ pub record Growable (b : Book) (ends latest earlier : List ℕ) (r : Growing) (s
 -- rings of its clusters, and how many edges became full
 pub record Grows (b : Book) (ends : List ℕ) (r : Growing) (s : List ℕ) (g : Grown) (s′ x′ ring′ filled′ : List ℕ) : Type 0 where
   pub supports :
-      s′ ≡ swell (plain (b .vertices) (length s) ends) s (growers (nameOf (b .parent) (b .low)) (b .figure) (r .from) (r .to))
+      s′ ≡ swell (plain (b .vertices) (length s) ends) s (growers (nameOf (b .parent) (lowsOf b)) (b .figure) (r .from) (r .to))
   pub book :
       (opened : List ℕ) (S : Set) → TrueBook (unmarked (b .vertices) (length s) ends opened) S s b →
       TrueBook (unmarked (b .vertices) (length s) ends opened) S s′ (g .book)
   pub counts : Exposures (length s) ends (full s′) x′
-  pub rings : Rings (g .book .vertices) (g .book .parent) (g .book .low) x′ ring′
+  pub rings : Rings (g .book .vertices) (g .book .parent) (lowsOf (g .book)) x′ ring′
   pub filled : g .filled ≡ countUpTo (length s) (λ e. full s′ e && not (full s e))
   pub room : length filled′ ≡ edgeLimit

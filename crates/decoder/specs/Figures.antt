@@ -1,7 +1,7 @@
 -- Document 02, K6: what the book keeps with each cluster, and when that is true of the supports. Internal: no part of what a reader of a
 -- product call must believe.
 -- Assumes nothing.
-use Prim.Native.Nat.{ℕ, _+_, _/_, _%_, _≤_, _<_}
+use Prim.Native.Nat.{ℕ, _+_, _-_, _/_, _%_, _≤_, _<_}
 use mathlib.Core.Path.{_≡_}
 use mathlib.Core.Bool.{Bool, cond, not}
 use mathlib.Core.List.{List}
@@ -24,9 +24,21 @@ openMark = 4096
 abbrev pub figureOf : ℕ → Bool → Bool → ℕ
 figureOf size lit holds = size + cond lit 0 evenMark + cond holds openMark 0
 
--- what stands in the place of a figure at a vertex that names no cluster
+-- What is at least 32,768 is no figure. It stands by the vertices that name no cluster: by a root whose tree another vertex names, 32,768 and
+-- that vertex.
+abbrev pub nameMark : ℕ
+nameMark = 32768
+
 abbrev pub noFigure : ℕ
 noFigure = 65535
+
+-- the name that is told by r: r itself, if a figure stands there
+abbrev pub nameAt : List ℕ → ℕ → ℕ
+nameAt figure r = cond (ltb (at figure r) nameMark) r (at figure r - nameMark)
+
+-- the names that are told by all numbers
+unfoldable pub namesBy : List ℕ → List ℕ
+namesBy figure = values vertexLimit (nameAt figure)
 
 -- The figure of two clusters as one: sizes add up, an even number of syndrome vertices comes of two that are both even or both odd, and an
 -- open vertex of either is one of both.
@@ -71,10 +83,10 @@ pub record Leads (n : ℕ) (l : List ℕ) (a : ℕ) : Type 0 where
   pub below : a < n
   pub own : label l a ≡ a
 
--- by each name of a cluster stands what f says of the cluster, and by no other number anything
+-- by each name of a cluster stands what f says of the cluster, and by no other number a figure
 pub record Keeps (n : ℕ) (l : List ℕ) (f : ℕ → ℕ) (figure : List ℕ) : Type 0 where
   pub named : (a : ℕ) → Leads n l a → at figure a ≡ f a
-  pub others : (a : ℕ) → a < vertexLimit → (Leads n l a → ⊥) → at figure a ≡ noFigure
+  pub others : (a : ℕ) → a < vertexLimit → (Leads n l a → ⊥) → nameMark ≤ at figure a
 
 -- The figures are true of the supports s: for every cluster that l names, what is kept is its boundary size at these supports, by the
 -- definition (model, Growth, `boundary`), with what tells whether it is odd.

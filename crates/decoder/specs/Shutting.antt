@@ -13,7 +13,7 @@ use Rattle.model.specs.Board.{vertexLimit, edgeLimit, EndsWithin}
 use Rattle.model.specs.Components.{within}
 use Rattle.union_find.specs.Trees.{at}
 use Rattle.decoder.specs.Gains.{withListed}
-use Rattle.decoder.specs.Figures.{Figurable, nameOf, names, Keeps}
+use Rattle.decoder.specs.Figures.{nameMark, namesBy, Figurable, nameOf, names, Keeps}
 use Rattle.decoder.specs.Exposures.{Exposures, counted}
 
 -- the number of the cluster's vertices that are in X, and something else that is known of the cluster
@@ -42,7 +42,7 @@ pub record NewlyListed (m : ℕ) (F : Set) (filled : List ℕ) (k : ℕ) : Type 
   pub distinct : (i j : ℕ) → i < j → j < k → getD filled i 0 ≢ getD filled j 0
 
 -- what is full, whatever it is: the counts are those of its edges, and each figure is the number of the tree's vertices that have a count,
--- with something else
+-- with something else, which is small enough for a figure; the names are those that are told beside the figures
 pub record ListShuttable (parent low ends filled : List ℕ) (k : ℕ) (x figure : List ℕ) : Type 0 where
   pub vertices : ℕ
   pub named : Figurable vertices parent low figure
@@ -51,13 +51,16 @@ pub record ListShuttable (parent low ends filled : List ℕ) (k : ℕ) (x figure
   pub full : Set
   pub fresh : NewlyListed edges full filled k
   pub counts : Exposures edges ends full x
+  pub told : namesBy figure ≡ low
   pub rest : ℕ → ℕ
+  pub small : (a : ℕ) → rest a + vertexLimit < nameMark
   pub figures : Keeps vertices (names vertices parent low) (sized vertices (names vertices parent low) (counted x) rest) figure
 
 -- once the first i listed edges are full too: the counts are those of the edges that are full then, and the figures follow
 pub record ShutUpTo {parent low ends filled : List ℕ} {k : ℕ} {x figure : List ℕ} (w : ListShuttable parent low ends filled k x figure) (i : ℕ)
     (x′ figure′ : List ℕ) : Type 0 where
   pub long : length figure′ ≡ vertexLimit
+  pub told : namesBy figure′ ≡ low
   pub counts : Exposures (w .edges) ends (withListed (w .full) i filled) x′
   pub figures :
       Keeps (w .vertices) (names (w .vertices) parent low) (sized (w .vertices) (names (w .vertices) parent low) (counted x′) (w .rest)) figure′

@@ -29,9 +29,8 @@ pub(crate) struct Book {
     pub(crate) vertices: usize,
     pub(crate) parent: [u16; Book::VERTICES],
     pub(crate) size: [u16; Book::VERTICES],
-    // By each root, the smallest vertex of its tree.
-    pub(crate) low: [u16; Book::VERTICES],
-    // By the smallest vertex of each tree, its figure: the boundary size, with what the choice needs beside it. By any other `Figure::NONE`.
+    // By the smallest vertex of each tree, which names it, its figure: the boundary size, with what the choice needs beside it. By a root that
+    // is not the smallest vertex of its tree, `Figure::NAME` and that vertex. By any other no figure.
     pub(crate) figure: [u16; Book::VERTICES],
 }
 
@@ -71,13 +70,11 @@ impl Book {
         let mut parent = [0u16; Self::VERTICES];
         let mut size = [0u16; Self::VERTICES];
         alone(vertices, &mut parent, &mut size);
-        let low = parent;
         let figure = lone_figures(vertices, opened, syndrome, exposure);
         Self {
             vertices,
             parent,
             size,
-            low,
             figure,
         }
     }
@@ -108,7 +105,7 @@ impl Book {
                 let x = first_end(ends, lost);
                 let y = second_end(ends, lost);
                 if apart(&book.parent, x, y) {
-                    join_rings(&book.parent, &book.low, ring, x, y);
+                    join_rings(&book.parent, &book.figure, ring, x, y);
                     book = book.fuse(x, y).book;
                 }
             }
@@ -126,13 +123,11 @@ impl Book {
         let root = root_of(&parent, vertex);
         compress(&mut parent, vertex, root);
         let size = self.size;
-        let low = self.low;
         let figure = self.figure;
         let book = Book {
             vertices: self.vertices,
             parent,
             size,
-            low,
             figure,
         };
         Found { book, root }
@@ -151,15 +146,13 @@ impl Book {
         let found = second.book;
         let mut parent = found.parent;
         let mut size = found.size;
-        let mut low = found.low;
         let mut figure = found.figure;
         let joined = join(&mut parent, &mut size, one, other);
-        merge(joined, &mut low, &mut figure);
+        merge(joined, &mut figure);
         let book = Book {
             vertices: found.vertices,
             parent,
             size,
-            low,
             figure,
         };
         Fused { book, joined }
@@ -186,7 +179,6 @@ impl Book {
         let vertices = self.vertices;
         let mut parent = self.parent;
         let mut size = self.size;
-        let mut low = self.low;
         let mut figure = self.figure;
         let count = raise(
             latest,
@@ -198,7 +190,7 @@ impl Book {
             support,
             filled,
         );
-        shut_listed(&parent, &low, ends, filled, count, exposure, &mut figure);
+        shut_listed(&parent, ends, filled, count, exposure, &mut figure);
         let mut i = 0;
         while i < count {
             let number = filled[i];
@@ -206,18 +198,16 @@ impl Book {
             let a = first_end(ends, edge);
             let b = second_end(ends, edge);
             if apart(&parent, a, b) {
-                join_rings(&parent, &low, ring, a, b);
+                join_rings(&parent, &figure, ring, a, b);
                 let book = Book {
                     vertices,
                     parent,
                     size,
-                    low,
                     figure,
                 };
                 let fused = book.fuse(a, b).book;
                 parent = fused.parent;
                 size = fused.size;
-                low = fused.low;
                 figure = fused.figure;
             }
             i += 1;
@@ -226,7 +216,6 @@ impl Book {
             vertices,
             parent,
             size,
-            low,
             figure,
         };
         Grown {

@@ -27,6 +27,9 @@ impl Figure {
 
     pub(crate) const OPEN: u16 = 4096;
 
+    // In the place of a figure, from here on: at the root of a tree that another vertex names, this and that vertex.
+    pub(crate) const NAME: u16 = 32768;
+
     // In the place of a figure, at a vertex that names no cluster.
     pub(crate) const NONE: u16 = 65535;
 

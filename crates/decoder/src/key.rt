@@ -46,7 +46,7 @@ pub(crate) fn key(
         return Solved::Refused(Refusal::NoCorrection(v));
     }
     let ran = run(growth, vertices, ends, opened, syndrome, loss, support);
-    let labels = labels_of(vertices, &ran.book.parent, &ran.book.low);
+    let labels = labels_of(vertices, &ran.book.parent, &ran.book.figure);
     let lit = odd_ends(&labels, opened, syndrome);
     let edges = peel(vertices, ends, support, &lit[..vertices], correction);
     Solved::Key {

@@ -1,4 +1,5 @@
 use crate::figure::Figure;
+use crate::labels::name_at;
 use model::limits::VERTICES;
 use model::numbers::Vertex;
 use union_find::Joined;
@@ -7,7 +8,7 @@ ghost use Prim.Native.Nat.{_<_};
 ghost use Rattle.model.specs.Board.{vertexLimit};
 ghost use Rattle.model.specs.Lent.{before, after};
 ghost use Rattle.decoder.specs.Figures.{carried};
-ghost use Rattle.decoder.specs.Merging.{RootsNamed, MergesRoots, Mergeable, Merges};
+ghost use Rattle.decoder.specs.Merging.{RootsNamed, figuresOf, Mergeable, figuresAfter};
 
 // The cluster named `from` becomes part of the one named `to`: their figures add up, and `from` names no cluster any more.
 fn carry(figure: &mut [u16; VERTICES], from: Vertex, to: Vertex)
@@ -23,30 +24,28 @@ fn carry(figure: &mut [u16; VERTICES], from: Vertex, to: Vertex)
     figure[j] = Figure::NONE;
 }
 
-// The tree of the root `child` is hung under `root`: the smaller of their names is that of both.
-fn merge_roots(low: &mut [u16; VERTICES], figure: &mut [u16; VERTICES], child: Vertex, root: Vertex)
-    requires { ⌜ RootsNamed (now low) (child .0) (root .0) ⌝ }
-    ensures { λ _. ⌜ MergesRoots (before low) (before figure) (child .0) (root .0) (after low) (after figure) ⌝ }
+// The tree of the root `child` is hung under `root`: the smaller of their names is that of both, and is told by `root`.
+fn merge_roots(figure: &mut [u16; VERTICES], child: Vertex, root: Vertex)
+    requires { ⌜ RootsNamed (now figure) (child .0) (root .0) ⌝ }
+    ensures { λ _. ⌜ after figure ≡ figuresOf (child .0) (root .0) (before figure) ⌝ }
 {
-    let x = child.0 as usize;
-    let y = root.0 as usize;
-    let p = low[x];
-    let q = low[y];
-    if p < q {
-        carry(figure, Vertex(q), Vertex(p));
-        low[y] = p;
+    let p = name_at(figure, child);
+    let q = name_at(figure, root);
+    if p.0 < q.0 {
+        carry(figure, q, p);
+        figure[root.0 as usize] = Figure::NAME + p.0;
     } else {
-        carry(figure, Vertex(p), Vertex(q));
+        carry(figure, p, q);
     }
 }
 
 // What is kept with the trees follows a join.
-pub(crate) fn merge(joined: Joined, low: &mut [u16; VERTICES], figure: &mut [u16; VERTICES])
-    requires { ⌜ Mergeable joined (now low) ⌝ }
-    ensures { λ _. ⌜ Merges joined (before low) (before figure) (after low) (after figure) ⌝ }
+pub(crate) fn merge(joined: Joined, figure: &mut [u16; VERTICES])
+    requires { ⌜ Mergeable joined (now figure) ⌝ }
+    ensures { λ _. ⌜ after figure ≡ figuresAfter joined (before figure) ⌝ }
 {
     match joined {
-        Joined::Hung { child, root } => merge_roots(low, figure, child, root),
+        Joined::Hung { child, root } => merge_roots(figure, child, root),
         Joined::Already(_) => {}
     }
 }

@@ -48,7 +48,7 @@ element-copy-out-figure c = search needs
 sub-figure : tie.Need-sub-figure
 sub-figure c =
     let named = c .before .before in
-    let start = named .before .before .before .before .before in
+    let start = named .before .before .before .before .before .before in
     let is = ap (at (start .args .figure .now)) (named .name-of .ensures .is) in
     omega (arith, is, start .pre .some-figure)
 
@@ -61,12 +61,12 @@ element-write-figure c = search needs
 returns : tie.Need-returns
 returns c =
     let named = c .before .before in
-    let start = named .before .before .before .before .before in
+    let start = named .before .before .before .before .before .before in
     let pre = start .pre in
     let x = start .args .exposure .now in
     let figure = start .args .figure .now in
     let v = start .args .vertex .0 in
-    let one : at x v ≡ 1 = last-one x v (omega (arith, pre .long, pre .vertex, pre .named .rooted .climbs .limit)) (pre .some-end) (named .before .if1 .taken) in
+    let one : at x v ≡ 1 = last-one x v (omega (arith, pre .long, pre .vertex, pre .named .rooted .climbs .limit)) (pre .some-end) (named .before .before .if1 .taken) in
     record { counts = refl; figures = rw (eq-eqb (at x v) 1 one, ← named .name-of .ensures .is) }
 
 returns-2 : tie.Need-returns-2

@@ -12,24 +12,24 @@ find-requires-2 c κs = search needs
 
 join-requires : tie.Need-join-requires
 join-requires c κs =
-    let second = c .before .before .before .before .before .before .before .before in
+    let second = c .before .before .before .before .before .before .before in
     let first = second .before .before .before in
     roots-joinable (first .before .args .self) _ _ (first .before .pre) _ _ (first .find .ensures) (second .find2 .ensures)
 
 merge-requires : tie.Need-merge-requires
 merge-requires c κs =
-    let joined = c .before .before in
-    let second = joined .before .before .before .before .before .before .before .before .before in
+    let joined = c .before in
+    let second = joined .before .before .before .before .before .before .before .before in
     let first = second .before .before .before in
     fuse-mergeable (first .before .args .self) _ _ (first .before .pre) _ _ (first .find .ensures) (second .find2 .ensures) _ _ _ (joined .join .ensures)
 
 returns : tie.Need-returns
 returns c =
-    let joined = c .before .before .before in
-    let second = joined .before .before .before .before .before .before .before .before .before in
+    let joined = c .before .before in
+    let second = joined .before .before .before .before .before .before .before .before in
     let first = second .before .before .before in
     fuses (first .before .args .self) _ _ (first .before .pre) _ _ (first .find .ensures) (second .find2 .ensures) _ _ _ (joined .join .ensures)
-    _ _ (c .merge .ensures)
+    _ (c .merge .ensures)
 
 pub fuse-spec : {M : Type 1} → statement M
 fuse-spec = tie.close (tie.spec find-requires find-requires-2 join-requires merge-requires returns)
