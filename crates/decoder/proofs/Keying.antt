@@ -27,6 +27,8 @@ use Rattle.board.proofs.Bounding.{none-one}
 use Rattle.theory.proofs.MarksAside.{unmarked-inside, clusters-aside, spanned-aside}
 use Rattle.theory.proofs.Corrections.{spanned-cong}
 use Rattle.theory.proofs.OddEnds.{ends-even, ends-labelled}
+use Rattle.theory.proofs.Syndromes.{Sealed}
+use Rattle.theory.proofs.WithoutOpen.{sealed-odd-ends}
 use Rattle.theory.proofs.Supports.{reached-supports}
 use Rattle.theory.proofs.Decodings.{odd-answer, even-answer, key-reached, key-even}
 use Rattle.theory.proofs.GrowthRun.{NoneOdd, Feeds}
@@ -145,6 +147,80 @@ module _ (x : Growth) (n : ℕ) (ends opened syndrome loss support written : Lis
             ∙ reached-supports board (policy board (ones syndrome)) (ones loss) (key-reached policy sheet) .long
             ∙ length-replicate m 0
 
+        abbrev l : List ℕ
+        l = clusters board s′
+
+        -- Peeling, where the bytes are the odd ends of the definitions
+
+        module _ (front : List ℕ) (long : length front ≡ n) (ends-are : (v : ℕ) → v < n → ones front v ≡ oddEnds board l (ones syndrome) v) where
+          -- Peeling: growth has left no cluster odd
+
+          none-left : NoneOdd board l (ones syndrome)
+          none-left =
+              subst (λ z. NoneOdd board (clusters board z) (ones syndrome)) (sym (ran .supports)) (key-even policy sheet range (w .unlit) feeds none-odd)
+
+          even : EvenClusters (plain n m ends) s′ front
+          unfolding oddlyLit
+          even =
+              record {
+                even = λ a h.
+                    ap (λ z. oddlyLit board z (ones front) a) (clusters-aside n ends _ _ [] opened refl s′)
+                    ∙ odd-cong n (λ v. ones front v && within l a v) (λ v. oddEnds board l (ones syndrome) v && within l a v)
+                    (λ v k. ap (λ t. t && within l a v) (ends-are v k))
+                    ∙ ends-even board l (ones syndrome) none-left .even a h;
+              }
+
+          pub peelable-by : Peelable n ends s′ front written
+          peelable-by =
+              record {
+                board = subst (λ k. EndsWithin n k ends) (sym grown-long) (w .lent);
+                end-bytes = long;
+                correction-bytes = w .correction-long ∙ sym grown-long;
+                even = subst (λ k. EvenClusters (plain n k ends) s′ front) (sym grown-long) even;
+              }
+
+          abbrev corrected : Set
+          corrected = peeled sheet (grownBy policy sheet)
+
+          correction-is : correctionOf n ends s′ front ≡ corrected
+          unfolding peeled correction clusters
+          correction-is =
+              ap (λ k. spanned (plain n k ends) (full s′) (ones front)) grown-long
+              ∙ spanned-aside n ends _ _ [] opened refl (full s′) (ones front)
+              ∙ spanned-cong board (full s′) (ones front) (ones (bytes n (oddEnds board l (ones syndrome))))
+              (λ v h. ends-are v h ∙ sym (ones-bytes n (oddEnds board l (ones syndrome)) v h))
+              ∙ ap (λ z. correction board (full z) (ones syndrome)) (ran .supports)
+
+          edge-count : length s′ ≡ length (board .marks)
+          edge-count = grown-long ∙ sym (length-replicate m 0)
+
+          pub keyed-by : (e : ℕ) (k : List ℕ) → Peels n ends s′ front e k → Keys policy sheet support written (Key (r .count) e) s′ k
+          unfolding solvedOrNone
+          keyed-by e k peels =
+              record {
+                result =
+                    ap (λ z. Key z e) (ran .count)
+                    ∙ ap (Key (grownBy policy sheet .count)) (peels .count ∙ ap (λ D. countUpTo (length s′) D) correction-is ∙ ap (λ i. countUpTo i corrected) edge-count)
+                    ∙ sym (even-answer Refused _ sheet none-odd);
+                support-bytes = ran .supports;
+                correction-bytes = peels .bytes-are ∙ ap (bytes (length s′)) correction-is ∙ ap (λ i. bytes i corrected) edge-count;
+              }
+
+        -- The odd ends of a board without open vertices: the syndrome
+
+        module _ {top : ℕ} (bound : Bounded (length opened) (entry opened) top) (zero : top ≡ 0) where
+          sealed : Sealed board
+          sealed = record { shut = λ v h. none-one opened bound zero v (omega (arith, w .open-bytes)) }
+
+          syndrome-ends : (v : ℕ) → v < n → ones syndrome v ≡ oddEnds board l (ones syndrome) v
+          syndrome-ends v h = sym (sealed-odd-ends board sealed l (ones syndrome) v h)
+
+          pub sealed-peelable : Peelable n ends s′ syndrome written
+          sealed-peelable = peelable-by syndrome (w .lit .count) syndrome-ends
+
+          pub sealed-keyed : (e : ℕ) (k : List ℕ) → Peels n ends s′ syndrome e k → Keys policy sheet support written (Key (r .count) e) s′ k
+          sealed-keyed = keyed-by syndrome (w .lit .count) syndrome-ends
+
         -- The odd ends, by the labels of the book
 
         abbrev b : Book
@@ -191,9 +267,6 @@ module _ (x : Growth) (n : ℕ) (ends opened syndrome loss support written : Lis
             pub front-long : length front ≡ n
             front-long = omega (arith, length-take n lit, front-fits)
 
-            abbrev l : List ℕ
-            l = clusters board s′
-
             -- the bytes are the odd ends of the definitions
             ends-are : (v : ℕ) → v < n → ones front v ≡ oddEnds board l (ones syndrome) v
             unfolding oddEnds oddlyLit
@@ -202,55 +275,8 @@ module _ (x : Growth) (n : ℕ) (ends opened syndrome loss support written : Lis
                 ∙ subst (λ k. MarksEnds k names opened syndrome lit) (w .lit .count) marks .at v h
                 ∙ ends-labelled board names l (ones syndrome) labels-are v h
 
-            -- Peeling: growth has left no cluster odd
-
-            none-left : NoneOdd board l (ones syndrome)
-            none-left =
-                subst (λ z. NoneOdd board (clusters board z) (ones syndrome)) (sym (ran .supports)) (key-even policy sheet range (w .unlit) feeds none-odd)
-
-            even : EvenClusters (plain n m ends) s′ front
-            unfolding oddlyLit
-            even =
-                record {
-                  even = λ a h.
-                      ap (λ z. oddlyLit board z (ones front) a) (clusters-aside n ends _ _ [] opened refl s′)
-                      ∙ odd-cong n (λ v. ones front v && within l a v) (λ v. oddEnds board l (ones syndrome) v && within l a v)
-                      (λ v k. ap (λ t. t && within l a v) (ends-are v k))
-                      ∙ ends-even board l (ones syndrome) none-left .even a h;
-                }
-
             pub peelable : Peelable n ends s′ front written
-            peelable =
-                record {
-                  board = subst (λ k. EndsWithin n k ends) (sym grown-long) (w .lent);
-                  end-bytes = front-long;
-                  correction-bytes = w .correction-long ∙ sym grown-long;
-                  even = subst (λ k. EvenClusters (plain n k ends) s′ front) (sym grown-long) even;
-                }
-
-            abbrev corrected : Set
-            corrected = peeled sheet (grownBy policy sheet)
-
-            correction-is : correctionOf n ends s′ front ≡ corrected
-            unfolding peeled correction clusters
-            correction-is =
-                ap (λ k. spanned (plain n k ends) (full s′) (ones front)) grown-long
-                ∙ spanned-aside n ends _ _ [] opened refl (full s′) (ones front)
-                ∙ spanned-cong board (full s′) (ones front) (ones (bytes n (oddEnds board l (ones syndrome))))
-                (λ v h. ends-are v h ∙ sym (ones-bytes n (oddEnds board l (ones syndrome)) v h))
-                ∙ ap (λ z. correction board (full z) (ones syndrome)) (ran .supports)
-
-            edge-count : length s′ ≡ length (board .marks)
-            edge-count = grown-long ∙ sym (length-replicate m 0)
+            peelable = peelable-by front front-long ends-are
 
             pub keyed : (e : ℕ) (k : List ℕ) → Peels n ends s′ front e k → Keys policy sheet support written (Key (r .count) e) s′ k
-            unfolding solvedOrNone
-            keyed e k peels =
-                record {
-                  result =
-                      ap (λ z. Key z e) (ran .count)
-                      ∙ ap (Key (grownBy policy sheet .count)) (peels .count ∙ ap (λ D. countUpTo (length s′) D) correction-is ∙ ap (λ i. countUpTo i corrected) edge-count)
-                      ∙ sym (even-answer Refused _ sheet none-odd);
-                  support-bytes = ran .supports;
-                  correction-bytes = peels .bytes-are ∙ ap (bytes (length s′)) correction-is ∙ ap (λ i. bytes i corrected) edge-count;
-                }
+            keyed = keyed-by front front-long ends-are

@@ -21,7 +21,7 @@ pub(crate) enum Solved {
 }
 
 // The key of a sheet that has passed the tests, or number 10, which leaves both buffers as they were. It looks at no marks. Where nothing is
-// lit nothing grows and no edge is corrected.
+// lit nothing grows and no edge is corrected; where no vertex is open the odd ends of the correction are the syndrome.
 pub(crate) fn key(
     growth: Growth,
     vertices: usize,
@@ -46,6 +46,13 @@ pub(crate) fn key(
         return Solved::Refused(Refusal::NoCorrection(v));
     }
     let ran = run(growth, vertices, ends, opened, syndrome, loss, support);
+    if largest_byte(opened) == 0 {
+        let edges = peel(vertices, ends, support, syndrome, correction);
+        return Solved::Key {
+            count: ran.count,
+            edges,
+        };
+    }
     let labels = labels_of(vertices, &ran.book.parent, &ran.book.figure);
     let lit = odd_ends(&labels, opened, syndrome);
     let edges = peel(vertices, ends, support, &lit[..vertices], correction);
