@@ -17,7 +17,7 @@ use Rattle.decoder.specs.declared.book.Book.{Book}
 use Rattle.decoder.specs.Gains.{listed, withListed}
 use Rattle.decoder.specs.TreeLabels.{BothRooted}
 use Rattle.decoder.specs.Rings.{Rings, BothNamed, JoinsRings}
-use Rattle.decoder.specs.Books.{lowsOf, Good, together, KeepsTrue, BothKept, Unites, FusesListed}
+use Rattle.decoder.specs.Books.{parentsBy, lowsOf, Good, together, KeepsTrue, BothKept, Unites, FusesListed}
 use Rattle.decoder.proofs.RingLaws.{rings-united}
 use Rattle.theory.proofs.MarksAside.{unmarked-inside}
 use Rattle.theory.proofs.JoinedLabels.{joinedBy, Adds, added-edge}
@@ -73,28 +73,28 @@ module _ (b : Book) (ends filled : List ℕ) (k : ℕ) (now : Book) (w : FusesLi
 -- Two vertices of the book
 
 module _ (b : Book) (u v : ℕ) (w : BothKept b u v) where
-  pub both-rooted : BothRooted (b .parent) u v
+  pub both-rooted : BothRooted (parentsBy b) u v
   both-rooted =
       record {
         vertices = b .vertices;
-        rooted = record { size = b .size; climbs = w .good .trees .climbs };
+        rooted = record { size = w .good .packed .size; climbs = w .good .packed .trees .climbs };
         first = w .first;
         second = w .second;
       }
 
-  pub both-named : BothNamed (b .parent) (lowsOf b) u v
+  pub both-named : BothNamed (parentsBy b) (lowsOf b) u v
   both-named =
       record {
         vertices = b .vertices;
-        nameable = record { rooted = record { size = b .size; climbs = w .good .trees .climbs }; lows = w .good .lows };
+        nameable = record { rooted = record { size = w .good .packed .size; climbs = w .good .packed .trees .climbs }; lows = w .good .lows };
         first = w .first;
         second = w .second;
       }
 
   -- they were apart: their rings are joined, and then their clusters fused
-  pub joined-rings : (t : Bool) → t ≡ not (together b u v) → t ≡ true → (x ring ring′ : List ℕ) → JoinsRings (b .parent) (lowsOf b) u v ring ring′
-      → (b′ : Book) → Unites b u v b′ → Rings (b .vertices) (b .parent) (lowsOf b) x ring
-      → Rings (b′ .vertices) (b′ .parent) (lowsOf b′) x ring′
+  pub joined-rings : (t : Bool) → t ≡ not (together b u v) → t ≡ true → (x ring ring′ : List ℕ) → JoinsRings (parentsBy b) (lowsOf b) u v ring ring′
+      → (b′ : Book) → Unites b u v b′ → Rings (b .vertices) (parentsBy b) (lowsOf b) x ring
+      → Rings (b′ .vertices) (parentsBy b′) (lowsOf b′) x ring′
   joined-rings t p q x ring ring′ j b′ f rings = rw (j .exchanges) (rings-united b x ring u v b′ (w .good) (w .first) (w .second) differ f rings)
     where
       go : (e : Bool) → t ≡ not e → e ≡ false

@@ -19,13 +19,14 @@ use Rattle.theory.proofs.OddMembers.{odd-one}
 use Rattle.theory.proofs.MarksAside.{unmarked-inside}
 use Rattle.union_find.specs.Trees.{at, rootOf}
 use Rattle.union_find.specs.Joining.{Mirrors}
-use Rattle.union_find.proofs.Fresh.{alone-root, alone-trees}
+use Rattle.union_find.proofs.Fresh.{alone-root}
+use Rattle.union_find.proofs.Packing.{alone-packed, packed-alone}
 use Rattle.union_find.proofs.Labels.{mirrors-alone, mirrors-united, mirrors-passed}
 use Rattle.decoder.specs.declared.book.Book.{Book}
 use Rattle.decoder.specs.Exposures.{counted}
 use Rattle.decoder.specs.Figures.{Lows, nameOf, names, Leads, Figured}
 use Rattle.decoder.specs.Rings.{Rings}
-use Rattle.decoder.specs.Books.{lowsOf, Good, TrueBook, ownLabels, KeepsTrue, Fresh, Gatherable, BothKept, Unites}
+use Rattle.decoder.specs.Books.{parentsBy, lowsOf, Good, TrueBook, ownLabels, KeepsTrue, Fresh, Gatherable, BothKept, Unites}
 use Rattle.decoder.proofs.NameLaws.{names-label, names-are}
 use Rattle.decoder.proofs.NamesTold.{told-long, lone-told}
 use Rattle.decoder.proofs.EndCounts.{counted-exposed}
@@ -36,7 +37,7 @@ use Rattle.decoder.proofs.Fusing.{keeps-on}
 pub record Gathering (n : ℕ) (ends opened s : List ℕ) (fresh : Book) (k : ℕ) (now : Book) : Type 0 where
   pub good : Good now
   pub vertices : now .vertices ≡ n
-  pub mirrors : Mirrors n (now .parent) (labelsUpTo (unmarked n (length s) ends opened) (full s) k)
+  pub mirrors : Mirrors n (parentsBy now) (labelsUpTo (unmarked n (length s) ends opened) (full s) k)
   pub true-still : KeepsTrue fresh now
 
 -- Every vertex alone
@@ -48,18 +49,18 @@ module _ (n : ℕ) (ends opened syndrome s x ring : List ℕ) (g : Gatherable n 
   abbrev S : Set
   S = ones syndrome
 
-  own-name : (v : ℕ) → v < n → nameOf (b .parent) (lowsOf b) v ≡ v
-  own-name = lone-told (g .lent .vertex-limit) (w .alone) (w .figures)
+  own-name : (v : ℕ) → v < n → nameOf (parentsBy b) (lowsOf b) v ≡ v
+  own-name = lone-told (g .lent .vertex-limit) (alone-packed (w .alone)) (w .figures)
 
   fresh-good : Good b
   fresh-good =
       rw (w .vertices)
       record {
-        trees = alone-trees (w .alone);
+        packed = packed-alone (w .alone);
         lows = record {
           long = omega (arith, told-long (b .figure), g .lent .vertex-limit);
           below = λ v h. rw (own-name v h) (omega arith);
-          same = λ v h. ap (rootOf (b .parent)) (own-name v h);
+          same = λ v h. ap (rootOf (parentsBy b)) (own-name v h);
         };
         figures-long = w .figures .long;
       }
@@ -68,7 +69,7 @@ module _ (n : ℕ) (ends opened syndrome s x ring : List ℕ) (g : Gatherable n 
   l = ownLabels b
 
   own-label : (v : ℕ) → v < n → label l v ≡ v
-  own-label v h = rw (w .vertices) (names-label n (b .parent) (lowsOf b) v h ∙ own-name v h)
+  own-label v h = rw (w .vertices) (names-label n (parentsBy b) (lowsOf b) v h ∙ own-name v h)
 
   alone-here : (a : ℕ) → a < n → within l a a ≡ true
   alone-here a h = eq-eqb _ _ (own-label a h)
@@ -111,8 +112,8 @@ module _ (n : ℕ) (ends opened syndrome s x ring : List ℕ) (g : Gatherable n 
       not-below a none h = none (record { below = h; own = own-label a h })
 
   -- the rings of lone vertices
-  pub fresh-rings : Rings (b .vertices) (b .parent) (lowsOf b) x ring
-  fresh-rings = rw (w .vertices) (rings-alone n (b .parent) (lowsOf b) x ring (alone-root (w .alone)) (g .rings))
+  pub fresh-rings : Rings (b .vertices) (parentsBy b) (lowsOf b) x ring
+  fresh-rings = rw (w .vertices) (rings-alone n (parentsBy b) (lowsOf b) x ring (alone-root (alone-packed (w .alone))) (g .rings))
 
   -- The full edges are fused
 
@@ -121,7 +122,7 @@ module _ (n : ℕ) (ends opened syndrome s x ring : List ℕ) (g : Gatherable n 
       record {
         good = fresh-good;
         vertices = w .vertices;
-        mirrors = mirrors-alone B (full s) (w .alone);
+        mirrors = mirrors-alone B (full s) (alone-packed (w .alone));
         true-still = record { figures = λ C T z q h. h };
       }
 
@@ -162,11 +163,11 @@ module _ (n : ℕ) (ends opened syndrome s x ring : List ℕ) (g : Gatherable n 
         vertices = u .vertices;
         good = u .good;
         mirrors = all;
-        figures = rw (names-are B (full s) (unmarked-inside (g .lent)) all lows-here) (subst (λ i. Figured B S s (names i (now .parent) (lowsOf now)) (now .figure)) (u .vertices) (u .true-still .figures B S s (sym (w .vertices)) fresh-figured));
+        figures = rw (names-are B (full s) (unmarked-inside (g .lent)) all lows-here) (subst (λ i. Figured B S s (names i (parentsBy now) (lowsOf now)) (now .figure)) (u .vertices) (u .true-still .figures B S s (sym (w .vertices)) fresh-figured));
       }
     where
-      all : Mirrors n (now .parent) (clusters B s)
+      all : Mirrors n (parentsBy now) (clusters B s)
       all = rw (length-replicate {A = ℕ} (length s) 0) (u .mirrors)
 
-      lows-here : Lows n (now .parent) (lowsOf now)
-      lows-here = subst (λ i. Lows i (now .parent) (lowsOf now)) (u .vertices) (u .good .lows)
+      lows-here : Lows n (parentsBy now) (lowsOf now)
+      lows-here = subst (λ i. Lows i (parentsBy now) (lowsOf now)) (u .vertices) (u .good .lows)

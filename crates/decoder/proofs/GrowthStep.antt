@@ -25,7 +25,7 @@ use Rattle.decoder.specs.Rings.{Rings}
 use Rattle.decoder.specs.Figures.{namesBy, Lows, nameOf, names, evenMark, oddFigure, Figured}
 use Rattle.decoder.specs.Exposures.{Exposures, counted}
 use Rattle.decoder.specs.Shutting.{NewlyListed, ListShuttable, ListShut}
-use Rattle.decoder.specs.Books.{lowsOf, Good, ownLabels, TrueBook, BothKept, FusesListed, Growable, Grows}
+use Rattle.decoder.specs.Books.{parentsBy, lowsOf, Good, ownLabels, TrueBook, BothKept, FusesListed, Growable, Grows}
 use Rattle.decoder.proofs.NameLaws.{names-label, names-are}
 use Rattle.decoder.proofs.EndCounts.{ends-cong, counted-fewer}
 use Rattle.decoder.proofs.RingLaws.{rings-fewer}
@@ -38,7 +38,7 @@ module _ (b : Book) (ends latest earlier : List ℕ) (r : Growing) (s x ring len
 
   -- what grows
   abbrev R : Set
-  R = growers (nameOf (b .parent) (lowsOf b)) (b .figure) (r .from) (r .to)
+  R = growers (nameOf (parentsBy b) (lowsOf b)) (b .figure) (r .from) (r .to)
 
   -- the clusters of the supports are the book's own
   own : (opened : List ℕ) (S : Set) → TrueBook (unmarked (b .vertices) (length s) ends opened) S s b
@@ -53,15 +53,15 @@ module _ (b : Book) (ends latest earlier : List ℕ) (r : Growing) (s x ring len
       subst (λ l. Figured (unmarked (b .vertices) (length s) ends opened) S s l (b .figure)) (own opened S w) (w .figures)
 
   -- an odd figure stands by no number but a name
-  pub odd-leads : (a : ℕ) → a < b .vertices → oddFigure (b .figure) a ≡ true → nameOf (b .parent) (lowsOf b) a ≡ a
-  odd-leads a h odd = elim (ℕ-discrete (nameOf (b .parent) (lowsOf b) a) a) [
+  pub odd-leads : (a : ℕ) → a < b .vertices → oddFigure (b .figure) a ≡ true → nameOf (parentsBy b) (lowsOf b) a ≡ a
+  odd-leads a h odd = elim (ℕ-discrete (nameOf (parentsBy b) (lowsOf b) a) a) [
     | yes q ↦ q
     | no q ↦
         omega (
           arith,
           ltb-true (at (b .figure) a) evenMark odd,
           own-figured (g .opened) (g .lit) (g .book) .kept .others a (omega (arith, g .lent .vertex-limit))
-              (λ lead. q (sym (names-label (b .vertices) (b .parent) (lowsOf b) a h) ∙ lead .own)),
+              (λ lead. q (sym (names-label (b .vertices) (parentsBy b) (lowsOf b) a h) ∙ lead .own)),
         )
   ]
 
@@ -69,7 +69,7 @@ module _ (b : Book) (ends latest earlier : List ℕ) (r : Growing) (s x ring len
   raisable =
       record {
         vertices = b .vertices;
-        parent = b .parent;
+        parent = parentsBy b;
         low = lowsOf b;
         ends = ends;
         lent = g .lent;
@@ -112,12 +112,12 @@ module _ (b : Book) (ends latest earlier : List ℕ) (r : Growing) (s x ring len
       abbrev C : Board
       C = unmarked (b .vertices) (length s) ends opened
 
-      abbrev listable : ListShuttable (b .parent) (lowsOf b) ends filled count x (b .figure)
+      abbrev listable : ListShuttable (parentsBy b) (lowsOf b) ends filled count x (b .figure)
       listable =
           record {
             vertices = b .vertices;
             named = record {
-              rooted = record { size = b .size; climbs = w .good .trees .climbs };
+              rooted = record { size = w .good .packed .size; climbs = w .good .packed .trees .climbs };
               lows = w .good .lows;
               long = w .good .figures-long;
             };
@@ -134,13 +134,13 @@ module _ (b : Book) (ends latest earlier : List ℕ) (r : Growing) (s x ring len
                 (own-figured opened S w);
           }
 
-      module _ (x′ figure : List ℕ) (shut : ListShut (b .parent) (lowsOf b) ends filled count x (b .figure) x′ figure) where
+      module _ (x′ figure : List ℕ) (shut : ListShut (parentsBy b) (lowsOf b) ends filled count x (b .figure) x′ figure) where
         counts-after : Exposures (length s) ends (full s′) x′
         counts-after =
             ends-cong (length s) ends (withListed (full s) count filled) (full s′) x′ (λ e h. sym (raised .becomes-full e h)) (shut .each listable .counts)
 
         -- the figures of the clusters that are not fused yet are true of the new supports
-        shut-figured : Figured C S s′ (names (b .vertices) (b .parent) (namesBy figure)) figure
+        shut-figured : Figured C S s′ (names (b .vertices) (parentsBy b) (namesBy figure)) figure
         shut-figured =
             rw (shut .each listable .told)
             (sized-figured (b .vertices) (length s) ends opened (g .lent .vertex-limit) S s′ x′ (ownLabels b) figure counts-after
@@ -150,23 +150,23 @@ module _ (b : Book) (ends latest earlier : List ℕ) (r : Growing) (s x ring len
         told-still : namesBy figure ≡ lowsOf b
         told-still = shut .each listable .told
 
-        shut-good : Good (record { vertices = b .vertices; parent = b .parent; size = b .size; figure = figure })
-        shut-good = record { trees = w .good .trees; lows = rw told-still (w .good .lows); figures-long = shut .each listable .long }
+        shut-good : Good (record { vertices = b .vertices; tree = b .tree; figure = figure })
+        shut-good = record { packed = w .good .packed; lows = rw told-still (w .good .lows); figures-long = shut .each listable .long }
 
     -- Fusing
 
-    pub growable-listed : ListShuttable (b .parent) (lowsOf b) ends filled count x (b .figure)
+    pub growable-listed : ListShuttable (parentsBy b) (lowsOf b) ends filled count x (b .figure)
     growable-listed = listable (g .opened) (g .lit) (g .book)
 
-    module _ (x′ figure : List ℕ) (shut : ListShut (b .parent) (lowsOf b) ends filled count x (b .figure) x′ figure) where
+    module _ (x′ figure : List ℕ) (shut : ListShut (parentsBy b) (lowsOf b) ends filled count x (b .figure) x′ figure) where
       abbrev shutBook : Book
-      shutBook = record { vertices = b .vertices; parent = b .parent; size = b .size; figure = figure }
+      shutBook = record { vertices = b .vertices; tree = b .tree; figure = figure }
 
       pub shut-begins : FusesListed shutBook ends filled 0 shutBook
       shut-begins = fuse-none shutBook ends filled (shut-good (g .opened) (g .lit) (g .book) x′ figure shut)
 
       -- no further vertex has a count after shutting, so the rings are as good
-      pub shut-rings : Rings (b .vertices) (b .parent) (namesBy figure) x′ ring₁
+      pub shut-rings : Rings (b .vertices) (parentsBy b) (namesBy figure) x′ ring₁
       shut-rings = rw (told-still (g .opened) (g .lit) (g .book) x′ figure shut) (rings-fewer fewer (t .each raisable .rings))
         where
           still : (e : ℕ) → e < length s → full s e ≡ true → full s′ e ≡ true
@@ -189,7 +189,7 @@ module _ (b : Book) (ends latest earlier : List ℕ) (r : Growing) (s x ring len
 
       -- the full edges are those before and the listed ones
       pub grows : (now : Book) (ring′ : List ℕ) → FusesListed shutBook ends filled count now
-          → Rings (now .vertices) (now .parent) (lowsOf now) x′ ring′
+          → Rings (now .vertices) (parentsBy now) (lowsOf now) x′ ring′
           → Grows b ends r s (record { book = now; filled = count }) s′ x′ ring′ filled
       unfolding clusters
       grows now ring′ f rings =
@@ -206,8 +206,8 @@ module _ (b : Book) (ends latest earlier : List ℕ) (r : Growing) (s x ring len
               → TrueBook (unmarked (b .vertices) (length s) ends opened) S s′ now
           book-after opened S w =
               let A = unmarked (b .vertices) (length s) ends opened in
-              let lows = subst (λ i. Lows i (now .parent) (lowsOf now)) (f .vertices) (f .good .lows) in
-              let all : Mirrors (b .vertices) (now .parent) (clusters A s′) =
+              let lows = subst (λ i. Lows i (parentsBy now) (lowsOf now)) (f .vertices) (f .good .lows) in
+              let all : Mirrors (b .vertices) (parentsBy now) (clusters A s′) =
               rw (labels-cong A (full s′) (withListed (full s) count filled)
               (λ e h. raised .becomes-full e (omega (arith, length-replicate {A = ℕ} (length s) 0))))
               (f .each (length s) opened (full s) (g .lent) (raised .edges) (w .mirrors)) in
@@ -217,6 +217,6 @@ module _ (b : Book) (ends latest earlier : List ℕ) (r : Growing) (s x ring len
                 mirrors = all;
                 figures =
                     rw (names-are A (full s′) (unmarked-inside (g .lent)) all lows)
-                    (subst (λ i. Figured A S s′ (names i (now .parent) (lowsOf now)) (now .figure)) (f .vertices)
+                    (subst (λ i. Figured A S s′ (names i (parentsBy now) (lowsOf now)) (now .figure)) (f .vertices)
                     (f .true-still .figures A S s′ refl (shut-figured opened S w x′ figure shut)));
               }

@@ -45,7 +45,7 @@ use Rattle.decoder.specs.Gains.{startOf}
 use Rattle.decoder.specs.Figures.{Lows}
 use Rattle.decoder.specs.TreeLabels.{Nameable, Labelled}
 use Rattle.decoder.specs.OddEnds.{vertexBoard, Markable, MarksEnds}
-use Rattle.decoder.specs.Books.{lowsOf}
+use Rattle.decoder.specs.Books.{parentsBy, lowsOf}
 use Rattle.decoder.specs.Runs.{bare, Runnable, Runs}
 use Rattle.decoder.specs.Keys.{Keyable, solvedOrNone, Keys}
 use Rattle.decoder.proofs.NameLaws.{names-label, names-are}
@@ -226,17 +226,17 @@ module _ (x : Growth) (n : ℕ) (ends opened syndrome loss support written : Lis
         abbrev b : Book
         b = r .book
 
-        lows-there : Lows n (b .parent) (lowsOf b)
-        lows-there = subst (λ k. Lows k (b .parent) (lowsOf b)) (ran .book .vertices) (ran .book .good .lows)
+        lows-there : Lows n (parentsBy b) (lowsOf b)
+        lows-there = subst (λ k. Lows k (parentsBy b) (lowsOf b)) (ran .book .vertices) (ran .book .good .lows)
 
-        pub nameable : Nameable n (b .parent) (lowsOf b)
+        pub nameable : Nameable n (parentsBy b) (lowsOf b)
         nameable =
             record {
-              rooted = subst (λ k. Rooted k (b .parent)) (ran .book .vertices) (record { size = b .size; climbs = ran .book .good .trees .climbs });
+              rooted = subst (λ k. Rooted k (parentsBy b)) (ran .book .vertices) (record { size = ran .book .good .packed .size; climbs = ran .book .good .packed .trees .climbs });
               lows = lows-there;
             }
 
-        module _ (names : List ℕ) (named : Labelled n (b .parent) (lowsOf b) names) where
+        module _ (names : List ℕ) (named : Labelled n (parentsBy b) (lowsOf b) names) where
           pub markable : Markable names opened syndrome
           markable =
               record {
@@ -255,7 +255,7 @@ module _ (x : Growth) (n : ℕ) (ends opened syndrome loss support written : Lis
           unfolding clusters
           labels-are v h =
               named .each v h
-              ∙ sym (ap (λ l. label l v) (names-are board (full s′) range (ran .book .mirrors) lows-there) ∙ names-label n (b .parent) (lowsOf b) v h)
+              ∙ sym (ap (λ l. label l v) (names-are board (full s′) range (ran .book .mirrors) lows-there) ∙ names-label n (parentsBy b) (lowsOf b) v h)
 
           module _ (lit : List ℕ) (marks : MarksEnds (length syndrome) names opened syndrome lit) where
             abbrev front : List ℕ

@@ -18,7 +18,7 @@ use Rattle.decoder.specs.declared.book.Book.{Book}
 use Rattle.decoder.specs.Exposures.{counted}
 use Rattle.decoder.specs.Figures.{nameOf}
 use Rattle.decoder.specs.Rings.{Passes, times, Ring, Rings, LoneRings, exchanged}
-use Rattle.decoder.specs.Books.{lowsOf, Good, Unites}
+use Rattle.decoder.specs.Books.{parentsBy, lowsOf, Good, Unites}
 use Rattle.decoder.proofs.NameLaws.{name-below}
 use Rattle.decoder.proofs.PassLaws.{times-here, times-other, times-cons, times-none, times-append, passes-append, passes-same, Step, step-round}
 
@@ -177,15 +177,15 @@ some-of true b c h = inl refl
 some-of false true c h = inr refl
 some-of false false c h = inl h
 
-module _ (b : Book) (x ring : List ℕ) (u v : ℕ) (b′ : Book) (good : Good b) (hu : u < b .vertices) (hv : v < b .vertices) (apart : sameRoot (b .parent) u v ≡ false) (f : Unites b u v b′) (w : Rings (b .vertices) (b .parent) (lowsOf b) x ring) where
+module _ (b : Book) (x ring : List ℕ) (u v : ℕ) (b′ : Book) (good : Good b) (hu : u < b .vertices) (hv : v < b .vertices) (apart : sameRoot (parentsBy b) u v ≡ false) (f : Unites b u v b′) (w : Rings (b .vertices) (parentsBy b) (lowsOf b) x ring) where
   abbrev n : ℕ
   n = b .vertices
 
   abbrev P : List ℕ
-  P = b .parent
+  P = parentsBy b
 
   abbrev P′ : List ℕ
-  P′ = b′ .parent
+  P′ = parentsBy b′
 
   abbrev p : ℕ
   p = nameOf P (lowsOf b) u
@@ -215,7 +215,7 @@ module _ (b : Book) (x ring : List ℕ) (u v : ℕ) (b′ : Book) (good : Good b
   p-q e = roots-differ (sym root-p ∙ ap (rootOf P) e ∙ root-q)
 
   few : n ≤ vertexLimit
-  few = good .trees .climbs .limit
+  few = good .packed .trees .climbs .limit
 
   at-p : at ring′ p ≡ at ring q
   at-p = getD-set-other (set ring p (at ring q)) q p (at ring p) 0 p-q ∙ getD-set-same ring p (at ring q) 0 (omega (arith, below-p, few, w .long))
@@ -323,5 +323,5 @@ module _ (b : Book) (x ring : List ℕ) (u v : ℕ) (b′ : Book) (good : Good b
             (united a h e)
       ]
 
-  pub rings-united : Rings (b′ .vertices) (b′ .parent) (lowsOf b′) x (exchanged ring p q)
+  pub rings-united : Rings (b′ .vertices) (parentsBy b′) (lowsOf b′) x (exchanged ring p q)
   rings-united = rw (f .vertices) record { long = simp length-set (w .long); each = ring-now }

@@ -31,7 +31,7 @@ use Rattle.decoder.specs.EndLists.{Unlisted, EndLists}
 use Rattle.decoder.specs.Rings.{LoneRings, Rings}
 use Rattle.decoder.specs.Raising.{growers}
 use Rattle.decoder.specs.Choices.{Choosable}
-use Rattle.decoder.specs.Books.{lowsOf, TrueBook, Gatherable, Gathers, Growable, Grows}
+use Rattle.decoder.specs.Books.{parentsBy, lowsOf, TrueBook, Gatherable, Gathers, Growable, Grows}
 use Rattle.decoder.specs.Growing.{policyOf, isSome, Follows, FollowsAll}
 use Rattle.decoder.specs.Runs.{bare, Runnable, Runs}
 use Rattle.decoder.proofs.NameLaws.{names-label, names-are}
@@ -58,7 +58,7 @@ pub record Running (x : Growth) (n : ℕ) (ends opened syndrome loss : List ℕ)
   pub long : length s ≡ length loss
   pub book : TrueBook (unmarked n (length loss) ends opened) (ones syndrome) s b
   pub ends-left : Exposures (length loss) ends (full s) counts
-  pub rings : Rings (b .vertices) (b .parent) (lowsOf b) counts ring
+  pub rings : Rings (b .vertices) (parentsBy b) (lowsOf b) counts ring
   pub reached : Reached (unmarked n (length loss) ends opened) (policyOf x (unmarked n (length loss) ends opened) (ones syndrome)) (ones loss) s g
   pub few : g ≤ 2 * length loss
   pub rest :
@@ -195,14 +195,14 @@ module _ (x : Growth) (n : ℕ) (ends opened syndrome loss s₀ : List ℕ) (w :
 
         -- what grows, by the names of the book's trees
         abbrev growing : Set
-        growing = growers (nameOf (b .parent) (lowsOf b)) (b .figure) (r .from) (r .to)
+        growing = growers (nameOf (parentsBy b) (lowsOf b)) (b .figure) (r .from) (r .to)
 
         -- a vertex's label is the name of its tree
-        labelled : (v : ℕ) → v < n → label (clusters B s) v ≡ nameOf (b .parent) (lowsOf b) v
+        labelled : (v : ℕ) → v < n → label (clusters B s) v ≡ nameOf (parentsBy b) (lowsOf b) v
         unfolding clusters
         labelled v h =
-            let lows = subst (λ k. Lows k (b .parent) (lowsOf b)) (run .book .vertices) (run .book .good .lows) in
-            ap (λ l. label l v) (names-are B (full s) inside (run .book .mirrors) lows) ∙ names-label n (b .parent) (lowsOf b) v h
+            let lows = subst (λ k. Lows k (parentsBy b) (lowsOf b)) (run .book .vertices) (run .book .good .lows) in
+            ap (λ l. label l v) (names-are B (full s) inside (run .book .mirrors) lows) ∙ names-label n (parentsBy b) (lowsOf b) v h
 
         growing-is : (v : ℕ) → v < n → growing v ≡ named .at v
         growing-is v h =

@@ -27,8 +27,7 @@ ghost use Rattle.decoder.specs.Books.{Fresh, Gatherable, Gathers, Kept, 
 // is kept.
 pub(crate) struct Book {
     pub(crate) vertices: usize,
-    pub(crate) parent: [u16; Book::VERTICES],
-    pub(crate) size: [u16; Book::VERTICES],
+    pub(crate) tree: [u16; Book::VERTICES],
     // By the smallest vertex of each tree, which names it, its figure: the boundary size, with what the choice needs beside it. By a root that
     // is not the smallest vertex of its tree, `Figure::NAME` and that vertex. By any other no figure.
     pub(crate) figure: [u16; Book::VERTICES],
@@ -67,14 +66,12 @@ impl Book {
         requires { ⌜ Lonely vertices (now opened) (now syndrome) (now exposure) ⌝ }
         ensures { λ r. ⌜ Fresh vertices (before opened) (before syndrome) (before exposure) r ⌝ }
     {
-        let mut parent = [0u16; Self::VERTICES];
-        let mut size = [0u16; Self::VERTICES];
-        alone(vertices, &mut parent, &mut size);
+        let mut tree = [0u16; Self::VERTICES];
+        alone(vertices, &mut tree);
         let figure = lone_figures(vertices, opened, syndrome, exposure);
         Self {
             vertices,
-            parent,
-            size,
+            tree,
             figure,
         }
     }
@@ -104,14 +101,20 @@ impl Book {
                 let lost = Edge(number);
                 let x = first_end(ends, lost);
                 let y = second_end(ends, lost);
-                if apart(&book.parent, x, y) {
-                    join_rings(&book.parent, &book.figure, ring, x, y);
+                if apart(&book.tree, x, y) {
+                    join_rings(&book.tree, &book.figure, ring, x, y);
                     book = book.fuse(x, y).book;
                 }
             }
             e += 1;
         }
-        book
+        let tree = book.tree;
+        let figure = book.figure;
+        Self {
+            vertices: book.vertices,
+            tree,
+            figure,
+        }
     }
 
     // The root of the vertex's tree. The path that was gone is compressed.
@@ -119,15 +122,13 @@ impl Book {
         requires { ⌜ Kept self (vertex .0) ⌝ }
         ensures { λ r. ⌜ Finds self (vertex .0) r ⌝ }
     {
-        let mut parent = self.parent;
-        let root = root_of(&parent, vertex);
-        compress(&mut parent, vertex, root);
-        let size = self.size;
+        let mut tree = self.tree;
+        let root = root_of(&tree, vertex);
+        compress(&mut tree, vertex, root);
         let figure = self.figure;
         let book = Book {
             vertices: self.vertices,
-            parent,
-            size,
+            tree,
             figure,
         };
         Found { book, root }
@@ -144,15 +145,13 @@ impl Book {
         let second = between.find(b);
         let other = second.root;
         let found = second.book;
-        let mut parent = found.parent;
-        let mut size = found.size;
+        let mut tree = found.tree;
         let mut figure = found.figure;
-        let joined = join(&mut parent, &mut size, one, other);
+        let joined = join(&mut tree, one, other);
         merge(joined, &mut figure);
         let book = Book {
             vertices: found.vertices,
-            parent,
-            size,
+            tree,
             figure,
         };
         Fused { book, joined }
@@ -177,8 +176,7 @@ impl Book {
             ⌜ Grows self (before ends) growing (before support) r (after support) (after exposure) (after ring) (after filled) ⌝ }
     {
         let vertices = self.vertices;
-        let mut parent = self.parent;
-        let mut size = self.size;
+        let mut tree = self.tree;
         let mut figure = self.figure;
         let count = raise(
             latest,
@@ -190,32 +188,29 @@ impl Book {
             support,
             filled,
         );
-        shut_listed(&parent, ends, filled, count, exposure, &mut figure);
+        shut_listed(&tree, ends, filled, count, exposure, &mut figure);
         let mut i = 0;
         while i < count {
             let number = filled[i];
             let edge = Edge(number);
             let a = first_end(ends, edge);
             let b = second_end(ends, edge);
-            if apart(&parent, a, b) {
-                join_rings(&parent, &figure, ring, a, b);
+            if apart(&tree, a, b) {
+                join_rings(&tree, &figure, ring, a, b);
                 let book = Book {
                     vertices,
-                    parent,
-                    size,
+                    tree,
                     figure,
                 };
                 let fused = book.fuse(a, b).book;
-                parent = fused.parent;
-                size = fused.size;
+                tree = fused.tree;
                 figure = fused.figure;
             }
             i += 1;
         }
         let book = Book {
             vertices,
-            parent,
-            size,
+            tree,
             figure,
         };
         Grown {

@@ -53,7 +53,10 @@ pub(crate) fn key(
             edges,
         };
     }
-    let labels = labels_of(vertices, &ran.book.parent, &ran.book.figure);
+    let book = ran.book;
+    let tree = book.tree;
+    let figure = book.figure;
+    let labels = labels_of(vertices, &tree, &figure);
     let lit = odd_ends(&labels, opened, syndrome);
     let edges = peel(vertices, ends, support, &lit[..vertices], correction);
     Solved::Key {

@@ -8,6 +8,7 @@ ghost use Prim.Native.Nat.{_≤_};
 ghost use lib.ListN.{length};
 ghost use Rattle.model.specs.Board.{vertexLimit};
 ghost use Rattle.model.specs.Lent.{before, after};
+ghost use Rattle.union_find.specs.Packed.{parentsOf};
 ghost use Rattle.decoder.specs.Figures.{namesBy};
 ghost use Rattle.decoder.specs.Rings.{LoneRings, Prunable, Prunes, BothNamed, JoinsRings};
 
@@ -43,17 +44,17 @@ pub(crate) fn prune(exposure: &[u16; VERTICES], ring: &mut [u16; VERTICES], name
 
 // The rings of the clusters of a and b as one: where each went on from its smallest vertex, the other does.
 pub(crate) fn join_rings<'a>(
-    parent: &'a [u16; VERTICES],
+    tree: &'a [u16; VERTICES],
     figure: &'a [u16; VERTICES],
     ring: &mut [u16; VERTICES],
     a: Vertex,
     b: Vertex,
 )
-    requires { ⌜ BothNamed (now parent) (namesBy (now figure)) (a .0) (b .0) ⌝ }
-    ensures { λ _. ⌜ JoinsRings (before parent) (namesBy (before figure)) (a .0) (b .0) (before ring) (after ring) ⌝ }
+    requires { ⌜ BothNamed (parentsOf (now tree)) (namesBy (now figure)) (a .0) (b .0) ⌝ }
+    ensures { λ _. ⌜ JoinsRings (parentsOf (before tree)) (namesBy (before figure)) (a .0) (b .0) (before ring) (after ring) ⌝ }
 {
-    let one = name_of(parent, figure, a);
-    let other = name_of(parent, figure, b);
+    let one = name_of(tree, figure, a);
+    let other = name_of(tree, figure, b);
     let p = one.0 as usize;
     let q = other.0 as usize;
     let after = ring[p];

@@ -6,25 +6,26 @@ use model::limits::VERTICES;
 use model::numbers::Edge;
 use model::numbers::Vertex;
 ghost use Rattle.model.specs.Lent.{before, after};
+ghost use Rattle.union_find.specs.Packed.{parentsOf};
 ghost use Rattle.decoder.specs.Figures.{namesBy};
 ghost use Rattle.decoder.specs.Shutting.{Shuttable, Shuts, ListShuttable, ListShut};
 
 // One end fewer, of edges that aren't full, lies at the vertex. With the last of them it leaves the boundary of its own cluster.
 fn shut(
-    parent: &[u16; VERTICES],
+    tree: &[u16; VERTICES],
     vertex: Vertex,
     exposure: &mut [u16; VERTICES],
     figure: &mut [u16; VERTICES],
 )
-    requires { ⌜ Shuttable (now parent) (namesBy (now figure)) (vertex .0) (now exposure) (now figure) ⌝ }
+    requires { ⌜ Shuttable (parentsOf (now tree)) (namesBy (now figure)) (vertex .0) (now exposure) (now figure) ⌝ }
     ensures { λ _.
-        ⌜ Shuts (before parent) (namesBy (before figure)) (vertex .0) (before exposure) (before figure)
+        ⌜ Shuts (parentsOf (before tree)) (namesBy (before figure)) (vertex .0) (before exposure) (before figure)
         (after exposure) (after figure) ⌝ }
 {
     let v = vertex.0 as usize;
     exposure[v] = exposure[v] - 1;
     if exposure[v] == 0 {
-        let name = name_of(parent, figure, vertex);
+        let name = name_of(tree, figure, vertex);
         let a = name.0 as usize;
         figure[a] = figure[a] - 1;
     }
@@ -32,16 +33,16 @@ fn shut(
 
 // The first `count` listed edges have become full: their ends count no more. No cluster is fused yet.
 pub(crate) fn shut_listed(
-    parent: &[u16; VERTICES],
+    tree: &[u16; VERTICES],
     ends: &[u16],
     filled: &[u16; EDGES],
     count: usize,
     exposure: &mut [u16; VERTICES],
     figure: &mut [u16; VERTICES],
 )
-    requires { ⌜ ListShuttable (now parent) (namesBy (now figure)) (now ends) (now filled) count (now exposure) (now figure) ⌝ }
+    requires { ⌜ ListShuttable (parentsOf (now tree)) (namesBy (now figure)) (now ends) (now filled) count (now exposure) (now figure) ⌝ }
     ensures { λ _.
-        ⌜ ListShut (before parent) (namesBy (before figure)) (before ends) (before filled) count
+        ⌜ ListShut (parentsOf (before tree)) (namesBy (before figure)) (before ends) (before filled) count
         (before exposure) (before figure) (after exposure) (after figure) ⌝ }
 {
     let mut i = 0;
@@ -50,8 +51,8 @@ pub(crate) fn shut_listed(
         let edge = Edge(number);
         let a = first_end(ends, edge);
         let b = second_end(ends, edge);
-        shut(parent, a, exposure, figure);
-        shut(parent, b, exposure, figure);
+        shut(tree, a, exposure, figure);
+        shut(tree, b, exposure, figure);
         i += 1;
     }
 }

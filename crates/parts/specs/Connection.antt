@@ -7,13 +7,14 @@ use Rattle.model.specs.Board.{plain}
 use Rattle.model.specs.Components.{labelsUpTo}
 use Rattle.model.specs.Decoding.{parts}
 use Rattle.model.specs.Refusals.{edgesOf}
-use Rattle.union_find.specs.Trees.{Trees, Rooted}
+use Rattle.union_find.specs.Trees.{Rooted}
+use Rattle.union_find.specs.Packed.{parentsOf, Packed}
 use Rattle.union_find.specs.Joining.{Mirrors}
 
 -- the trees are the parts by the first k edges
-pub record ConnectsUpTo (n : ℕ) (ends : List ℕ) (k : ℕ) (parent size : List ℕ) : Type 0 where
-  pub trees : Trees n parent size
-  pub mirrors : Mirrors n parent (labelsUpTo (plain n (edgesOf ends) ends) (λ e. true) k)
+pub record ConnectsUpTo (n : ℕ) (ends : List ℕ) (k : ℕ) (t : List ℕ) : Type 0 where
+  pub packed : Packed n t
+  pub mirrors : Mirrors n (parentsOf t) (labelsUpTo (plain n (edgesOf ends) ends) (λ e. true) k)
 
 -- the trees are the parts of the whole board
 pub record Connects (n : ℕ) (ends parent : List ℕ) : Type 0 where

@@ -50,7 +50,7 @@ pub record PeelingFrom (vertices : ℕ) (ends support oddEnds p : List ℕ) (wri
 
 pub span-room : {vertices : ℕ} {ends support oddEnds written : List ℕ} (k : ℕ) → vertices ≤ k
     → Peelable vertices ends support oddEnds written → SpanRoom vertices ends support (replicate k 0) (replicate k 0) (replicate k 0)
-span-room {vertices} k h w = record { board = w .board; parents = room; edge-room = room; link-room = room }
+span-room {vertices} k h w = record { board = w .board; tree-room = room; edge-room = room; link-room = room }
   where
     room : vertices ≤ length (replicate {A = ℕ} k 0)
     room = rw (length-replicate {A = ℕ} k 0) h

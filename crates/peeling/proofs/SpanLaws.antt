@@ -10,7 +10,7 @@ use native.Mathlib.Numerals.{add-one}
 use native.Mathlib.Decide.{ℕ-discrete}
 use native.Mathlib.Omega.{arith}
 use borrow.Author.Tests.{eq-eqb, ne-eqb}
-use lib.ListN.{length, set, length-set, replicate, length-replicate}
+use lib.ListN.{length, set, length-set}
 use lib.Seq.{getD-set-same, getD-set-other}
 use lib.Dec.{eqb}
 use Rattle.model.specs.Sums.{Set, countUpTo}
@@ -23,13 +23,14 @@ use Rattle.model.proofs.CountLaws.{count-in, count-out, count-before, count-roo
 use Rattle.theory.proofs.Components.{labels-length}
 use Rattle.theory.proofs.Forests.{forest-is}
 use Rattle.union_find.specs.declared.Joined.{Joined}
-use Rattle.union_find.specs.Trees.{at, rootOf, Trees, TwoRoots, Room, Alone, hung}
+use Rattle.union_find.specs.Trees.{at, rootOf, Trees, TwoRoots, Alone, hung}
+use Rattle.union_find.specs.Packed.{parentsOf, Packed, Fits, EachAlone}
 use Rattle.union_find.specs.Joining.{Joins, sameRoot, Mirrors}
 use Rattle.union_find.proofs.Roots.{root-top, root-inside}
 use Rattle.union_find.proofs.Hanging.{hung-parent, other-parent}
-use Rattle.union_find.proofs.Fresh.{alone-trees}
+use Rattle.union_find.proofs.Packing.{alone-packed, packed-alone, rejoined}
 use Rattle.union_find.proofs.Subtrees.{under-top, under-hung}
-use Rattle.union_find.proofs.Unions.{Hung-is, hung-is, already-is, joins-trees}
+use Rattle.union_find.proofs.Unions.{Hung-is, hung-is, already-is}
 use Rattle.union_find.proofs.Labels.{mirrors-alone, mirrors-joined, mirrors-passed}
 use Rattle.peeling.specs.Links.{Takes, appended, passed, HungBy, place, Stands, Listed, SpanRoom, Spans}
 
@@ -157,42 +158,42 @@ module _ (B : Board) (F : Set) (k : ℕ) {p s : List ℕ} (t : Trees (B .vertice
 -- The loop over the edges
 
 -- the edges below k are done; each edge in the list hung one vertex
-pub record Spanning (vertices : ℕ) (ends support p size taken links : List ℕ) (k count : ℕ) : Type 0 where
-  pub trees : Trees vertices p size
-  pub mirrors : Mirrors vertices p (labelsUpTo (plain vertices (length support) ends) (full support) k)
-  pub listed : Listed (plain vertices (length support) ends) (full support) p taken links k count
-  pub hung-count : count ≡ countUpTo vertices (hangs p)
+pub record Spanning (vertices : ℕ) (ends support t taken links : List ℕ) (k count : ℕ) : Type 0 where
+  pub packed : Packed vertices t
+  pub mirrors : Mirrors vertices (parentsOf t) (labelsUpTo (plain vertices (length support) ends) (full support) k)
+  pub listed : Listed (plain vertices (length support) ends) (full support) (parentsOf t) taken links k count
+  pub hung-count : count ≡ countUpTo vertices (hangs (parentsOf t))
   pub edge-room : vertices ≤ length taken
   pub link-room : vertices ≤ length links
 
--- the fresh sizes
-pub fresh-room : {vertices : ℕ} {ends support p taken links : List ℕ} (k : ℕ) → vertices ≤ k
-    → SpanRoom vertices ends support p taken links → Room vertices p (replicate k 0)
-fresh-room k h w =
-    record { limit = w .board .vertex-limit; parents = w .parents; sizes = rw (length-replicate {A = ℕ} k 0) h }
+pub tree-fits : {vertices : ℕ} {ends support t taken links : List ℕ} → SpanRoom vertices ends support t taken links → Fits vertices t
+tree-fits w = record { limit = w .board .vertex-limit; room = w .tree-room }
 
-pub spanning-start : {vertices k : ℕ} {ends support p₀ p size taken links : List ℕ} → k ≡ 0
-    → SpanRoom vertices ends support p₀ taken links → Alone vertices p size → Spanning vertices ends support p size taken links k 0
+pub spanning-start : {vertices k : ℕ} {ends support t₀ t taken links : List ℕ} → k ≡ 0
+    → SpanRoom vertices ends support t₀ taken links → EachAlone vertices t → Spanning vertices ends support t taken links k 0
 unfolding countUpTo
 spanning-start {vertices} {ends = ends} {support} none room a =
     rw none
     (record {
-      trees = alone-trees a;
-      mirrors = mirrors-alone (plain vertices (length support) ends) (full support) a;
+      packed = packed-alone a;
+      mirrors = mirrors-alone (plain vertices (length support) ends) (full support) (alone-packed a);
       listed = record { counted = refl; each = λ e h. absurd (not-suc-le-zero h) };
-      hung-count = sym (alone-hangs a);
+      hung-count = sym (alone-hangs (alone-packed a));
       edge-room = room .edge-room;
       link-room = room .link-room;
     })
 
-module _ {vertices : ℕ} {ends support p s taken links : List ℕ} {k count : ℕ} (board : EndsWithin vertices (length support) ends)
-    (w : Spanning vertices ends support p s taken links k count) (h : k < length support) where
+module _ {vertices : ℕ} {ends support t taken links : List ℕ} {k count : ℕ} (board : EndsWithin vertices (length support) ends)
+    (w : Spanning vertices ends support t taken links k count) (h : k < length support) where
+  trees : Trees vertices (parentsOf t) (w .packed .size)
+  trees = w .packed .trees
+
   abbrev B : Board
   B = plain vertices (length support) ends
 
   -- fewer edges are in the list than there are vertices
   list-room : count < vertices
-  list-room = omega (arith, w .hung-count, some-root (w .trees) _ (board .first-in-range k h))
+  list-room = omega (arith, w .hung-count, some-root trees _ (board .first-in-range k h))
 
   pub take-room : count < vertexLimit
   take-room = omega (arith, list-room, board .vertex-limit)
@@ -203,18 +204,18 @@ module _ {vertices : ℕ} {ends support p s taken links : List ℕ} {k count : �
   second : secondEnd B k < vertices
   second = board .second-in-range k h
 
-  mirrors-next : full support k ≡ true → {j : Joined} {p′ s′ : List ℕ} → Joins p s (firstEnd B k) (secondEnd B k) j p′ s′
+  mirrors-next : full support k ≡ true → {j : Joined} {p′ s′ : List ℕ} → Joins (parentsOf t) (w .packed .size) (firstEnd B k) (secondEnd B k) j p′ s′
       → Mirrors vertices p′ (labelsUpTo B (full support) (k + 1))
   mirrors-next is-full i =
       rw (add-one k)
-      (mirrors-joined B (full support) k is-full (w .mirrors) (w .trees) (le-of-eq (sym (labels-length B (full support) k))) first second i)
+      (mirrors-joined B (full support) k is-full (w .mirrors) trees (le-of-eq (sym (labels-length B (full support) k))) first second i)
 
   -- it is not full
-  pub spanning-passed : {k′ : ℕ} → full support k ≡ false → k′ ≡ k + 1 → Spanning vertices ends support p s taken links k′ count
+  pub spanning-passed : {k′ : ℕ} → full support k ≡ false → k′ ≡ k + 1 → Spanning vertices ends support t taken links k′ count
   spanning-passed out next =
       rw next
       (record {
-        trees = w .trees;
+        packed = w .packed;
         mirrors = rw (add-one k) (mirrors-passed B (full support) k out (w .mirrors));
         listed = listed-passed (forest-is B (full support) k ∙ rw out) (w .listed);
         hung-count = w .hung-count;
@@ -223,44 +224,46 @@ module _ {vertices : ℕ} {ends support p s taken links : List ℕ} {k count : �
       })
 
   -- it is full and taken
-  pub spanning-next : {k′ r : ℕ} {p′ s′ taken′ links′ : List ℕ} → full support k ≡ true
-      → Takes ends p s taken links count k r p′ s′ taken′ links′ → k′ ≡ k + 1 → Spanning vertices ends support p′ s′ taken′ links′ k′ r
+  pub spanning-next : {k′ r : ℕ} {t′ taken′ links′ : List ℕ} → full support k ≡ true
+      → Takes ends t taken links count k r t′ taken′ links′ → k′ ≡ k + 1 → Spanning vertices ends support t′ taken′ links′ k′ r
   spanning-next is-full (appended x y i more edge link) next =
-      let t = hung-is (w .trees) first second i in
+      let then = rejoined (w .packed) first second i in
+      let is = hung-is trees first second (then .joins) in
       rw (next, more, edge, link)
       (record {
-        trees = joins-trees (w .trees) first second i;
-        mirrors = mirrors-next is-full i;
+        packed = then .packed;
+        mirrors = mirrors-next is-full (then .joins);
         listed =
-            rw (t .parents)
+            rw (is .parents)
             (listed-next (omega (arith, list-room, w .edge-room)) (omega (arith, list-room, w .link-room))
-            (link-new B (full support) k (w .trees) (w .mirrors) first second is-full t) (listed-hung (w .trees) (t .roots) (w .listed)));
-        hung-count = rw (t .parents) (omega (arith, w .hung-count, hung-hangs (w .trees) (t .roots)));
+            (link-new B (full support) k trees (w .mirrors) first second is-full is) (listed-hung trees (is .roots) (w .listed)));
+        hung-count = rw (is .parents) (omega (arith, w .hung-count, hung-hangs trees (is .roots)));
         edge-room = rw (length-set taken count k) (w .edge-room);
         link-room = rw (length-set links count (x .0)) (w .link-room);
       })
   spanning-next is-full (passed z i same edge link) next =
-      let t = already-is (w .trees) first second i in
+      let then = rejoined (w .packed) first second i in
+      let is = already-is trees first second (then .joins) in
       rw (next, same, edge, link)
       (record {
-        trees = joins-trees (w .trees) first second i;
-        mirrors = mirrors-next is-full i;
+        packed = then .packed;
+        mirrors = mirrors-next is-full (then .joins);
         listed =
-            rw (t .parents)
+            rw (is .parents)
             (listed-passed
-            (forest-apart B (full support) k (w .trees) (w .mirrors) first second is-full ∙ ap not (eq-eqb _ _ (t .one-root)))
+            (forest-apart B (full support) k trees (w .mirrors) first second is-full ∙ ap not (eq-eqb _ _ (is .one-root)))
             (w .listed));
-        hung-count = rw (t .parents) (w .hung-count);
+        hung-count = rw (is .parents) (w .hung-count);
         edge-room = w .edge-room;
         link-room = w .link-room;
       })
 
-pub spanning-done : {vertices k count : ℕ} {ends support p size taken links : List ℕ} → EndsWithin vertices (length support) ends
-    → k ≡ length support → Spanning vertices ends support p size taken links k count → Spans vertices ends support count p taken links
-spanning-done {vertices} {p = p} {size} board all w =
+pub spanning-done : {vertices k count : ℕ} {ends support t taken links : List ℕ} → EndsWithin vertices (length support) ends
+    → k ≡ length support → Spanning vertices ends support t taken links k count → Spans vertices ends support count (parentsOf t) taken links
+spanning-done {vertices} {t = t} board all w =
     record {
-      size = size;
-      trees = w .trees;
+      size = w .packed .size;
+      trees = w .packed .trees;
       listed = rw all at (w .listed);
-      limit = omega (arith, w .hung-count, count-bound vertices (hangs p), board .vertex-limit);
+      limit = omega (arith, w .hung-count, count-bound vertices (hangs (parentsOf t)), board .vertex-limit);
     }

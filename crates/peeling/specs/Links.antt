@@ -16,25 +16,25 @@ use Rattle.model.specs.Forest.{forest}
 use Rattle.model.specs.declared.numbers.Vertex.{Vertex}
 use Rattle.union_find.specs.declared.Joined.the-variants.{Hung, Already}
 use Rattle.union_find.specs.Trees.{at, Trees, under}
-use Rattle.union_find.specs.Joining.{Joins}
+use Rattle.union_find.specs.Packed.{Packed, JoinsIn}
 
 -- the arrays may take edge e, with `count` edges in the list
-pub record Takeable (ends parent size : List ℕ) (count e : ℕ) : Type 0 where
+pub record Takeable (ends t : List ℕ) (count e : ℕ) : Type 0 where
   pub vertices : ℕ
   pub edges : ℕ
   pub board : EndsWithin vertices edges ends
   pub edge : e < edges
-  pub trees : Trees vertices parent size
+  pub packed : Packed vertices t
   pub room : count < vertexLimit
 
 -- The ends of edge e are joined. Where that hangs the root x, the edge and x are next in the list, and otherwise the list stays; r edges
 -- are in it then.
-pub data Takes (ends parent size taken links : List ℕ) (count e r : ℕ) (parent′ size′ taken′ links′ : List ℕ) : Type 0 where
-  appended : (x y : Vertex) → Joins parent size (getD ends (2 * e) 0) (getD ends (2 * e + 1) 0) (Hung x y) parent′ size′
+pub data Takes (ends t taken links : List ℕ) (count e r : ℕ) (t′ taken′ links′ : List ℕ) : Type 0 where
+  appended : (x y : Vertex) → JoinsIn t (getD ends (2 * e) 0) (getD ends (2 * e + 1) 0) (Hung x y) t′
       → r ≡ count + 1 → taken′ ≡ set taken count e → links′ ≡ set links count (x .0)
-      → Takes ends parent size taken links count e r parent′ size′ taken′ links′
-  passed : (z : Vertex) → Joins parent size (getD ends (2 * e) 0) (getD ends (2 * e + 1) 0) (Already z) parent′ size′
-      → r ≡ count → taken′ ≡ taken → links′ ≡ links → Takes ends parent size taken links count e r parent′ size′ taken′ links′
+      → Takes ends t taken links count e r t′ taken′ links′
+  passed : (z : Vertex) → JoinsIn t (getD ends (2 * e) 0) (getD ends (2 * e + 1) 0) (Already z) t′
+      → r ≡ count → taken′ ≡ taken → links′ ≡ links → Takes ends t taken links count e r t′ taken′ links′
 
 -- Edge e of the forest hangs x: at x and below it hang the vertices that the edges of F below e connect with one of its ends.
 pub record HungBy (B : Board) (F : Set) (parent : List ℕ) (e x : ℕ) : Type 0 where
@@ -60,9 +60,9 @@ pub record Listed (B : Board) (F : Set) (parent taken links : List ℕ) (n count
   pub each : (e : ℕ) → e < n → forest B F e ≡ true → Stands B F parent taken links e
 
 -- there is room for the trees and the list
-pub record SpanRoom (vertices : ℕ) (ends support parent taken links : List ℕ) : Type 0 where
+pub record SpanRoom (vertices : ℕ) (ends support t taken links : List ℕ) : Type 0 where
   pub board : EndsWithin vertices (length support) ends
-  pub parents : vertices ≤ length parent
+  pub tree-room : vertices ≤ length t
   pub edge-room : vertices ≤ length taken
   pub link-room : vertices ≤ length links
 

@@ -7,28 +7,28 @@ use model::numbers::Edge;
 use model::numbers::HalfEdges;
 use union_find::Joined;
 ghost use Rattle.model.specs.Lent.{before, after};
+ghost use Rattle.union_find.specs.Packed.{parentsOf};
 ghost use Rattle.peeling.specs.Links.{Takeable, Takes, SpanRoom, Spans};
 
 // A full edge is taken, if its ends are in two trees: it is next in the list, after `count` others, with its link, the root that it hangs.
 // The answer is how many edges are in the list then.
 fn take(
     ends: &[u16],
-    parent: &mut [u16; VERTICES],
-    size: &mut [u16; VERTICES],
+    tree: &mut [u16; VERTICES],
     taken: &mut [u16; VERTICES],
     links: &mut [u16; VERTICES],
     count: usize,
     edge: Edge,
 ) -> usize
-    requires { ⌜ Takeable (now ends) (now parent) (now size) count (edge .0) ⌝ }
+    requires { ⌜ Takeable (now ends) (now tree) count (edge .0) ⌝ }
     ensures { λ r.
-        ⌜ Takes (before ends) (before parent) (before size) (before taken) (before links) count (edge .0) r
-        (after parent) (after size) (after taken) (after links) ⌝ }
+        ⌜ Takes (before ends) (before tree) (before taken) (before links) count (edge .0) r
+        (after tree) (after taken) (after links) ⌝ }
 {
     let a = first_end(ends, edge);
     let b = second_end(ends, edge);
     let next = count + 1;
-    match union_find::join(parent, size, a, b) {
+    match union_find::join(tree, a, b) {
         Joined::Hung { child, root: _ } => {
             taken[count] = edge.0;
             links[count] = child.0;
@@ -44,15 +44,14 @@ pub fn span(
     vertices: usize,
     ends: &[u16],
     support: &[u8],
-    parent: &mut [u16; VERTICES],
+    tree: &mut [u16; VERTICES],
     taken: &mut [u16; VERTICES],
     links: &mut [u16; VERTICES],
 ) -> usize
-    requires { ⌜ SpanRoom vertices (now ends) (now support) (now parent) (now taken) (now links) ⌝ }
-    ensures { λ r. ⌜ Spans vertices (before ends) (before support) r (after parent) (after taken) (after links) ⌝ }
+    requires { ⌜ SpanRoom vertices (now ends) (now support) (now tree) (now taken) (now links) ⌝ }
+    ensures { λ r. ⌜ Spans vertices (before ends) (before support) r (parentsOf (after tree)) (after taken) (after links) ⌝ }
 {
-    let mut size = [0u16; VERTICES];
-    union_find::alone(vertices, parent, &mut size);
+    union_find::alone(vertices, tree);
     let edges = support.len();
     let mut count = 0;
     // `left` edges are still to be looked at, in rising number.
@@ -62,7 +61,7 @@ pub fn span(
         let half = HalfEdges(support[e]);
         if half.is_full() {
             let number = e as u16;
-            count = take(ends, parent, &mut size, taken, links, count, Edge(number));
+            count = take(ends, tree, taken, links, count, Edge(number));
         }
         left -= 1;
     }

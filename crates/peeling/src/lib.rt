@@ -8,21 +8,22 @@ use model::limits::VERTICES;
 use model::numbers::Edge;
 use model::numbers::Vertex;
 ghost use Rattle.model.specs.Lent.{before, after};
+ghost use Rattle.union_find.specs.Packed.{parentsOf};
 ghost use Rattle.peeling.specs.Peeling.{Cuttable, Cuts, Clears, Peelable, Peels};
 
 // An edge of the forest is cut. It is in the correction where an odd number of what is left hangs at its link and below: then its byte is
 // 1, and its ends flip. The answer is 1 or 0, for the count.
 fn cut(
     ends: &[u16],
-    parent: &[u16; VERTICES],
+    tree: &[u16; VERTICES],
     odd: &mut [bool; VERTICES],
     correction: &mut [u8],
     edge: Edge,
     link: Vertex,
 ) -> usize
-    requires { ⌜ Cuttable (now ends) (now parent) (now odd) (now correction) (edge .0) (link .0) ⌝ }
+    requires { ⌜ Cuttable (now ends) (parentsOf (now tree)) (now odd) (now correction) (edge .0) (link .0) ⌝ }
     ensures { λ r.
-        ⌜ Cuts (before ends) (before parent) (before odd) (before correction) (edge .0) (link .0) r (after odd) (after correction) ⌝ }
+        ⌜ Cuts (before ends) (parentsOf (before tree)) (before odd) (before correction) (edge .0) (link .0) r (after odd) (after correction) ⌝ }
 {
     if !odd[link.0 as usize] {
         return 0;
@@ -31,8 +32,8 @@ fn cut(
     correction[e] = 1;
     let a = first_end(ends, edge);
     let b = second_end(ends, edge);
-    flips::flip(parent, odd, a);
-    flips::flip(parent, odd, b);
+    flips::flip(tree, odd, a);
+    flips::flip(tree, odd, b);
     1
 }
 
@@ -58,12 +59,12 @@ pub fn peel(
     requires { ⌜ Peelable vertices (now ends) (now support) (now lit) (now correction) ⌝ }
     ensures { λ r. ⌜ Peels vertices (before ends) (before support) (before lit) r (after correction) ⌝ }
 {
-    let mut parent = [0u16; VERTICES];
+    let mut tree = [0u16; VERTICES];
     let mut taken = [0u16; VERTICES];
     let mut links = [0u16; VERTICES];
-    let listed = forest::span(vertices, ends, support, &mut parent, &mut taken, &mut links);
+    let listed = forest::span(vertices, ends, support, &mut tree, &mut taken, &mut links);
     let mut odd = [false; VERTICES];
-    flips::flip_ends(lit, &parent, &mut odd);
+    flips::flip_ends(lit, &tree, &mut odd);
     clear(correction);
     let mut k = listed;
     let mut count = 0;
@@ -72,7 +73,7 @@ pub fn peel(
         let number = taken[k];
         let link = links[k];
         let edge = Edge(number);
-        count += cut(ends, &parent, &mut odd, correction, edge, Vertex(link));
+        count += cut(ends, &tree, &mut odd, correction, edge, Vertex(link));
     }
     count
 }

@@ -25,6 +25,10 @@ module _ {p p′ : List ℕ} {v r : ℕ} (i : RootIs p v r) (w : Compressed p v 
   compressed-root z q = ⊎-elim (λ e. e ∙ q) (λ e. e ∙ root-self p z q) (each z)
 
   module _ {n : ℕ} {s : List ℕ} where
+    -- and no vertex becomes one
+    pub roots-were : Climbs n p s → (z : ℕ) → z < n → at p′ z ≡ z → at p z ≡ z
+    roots-were t z h q = ⊎-elim (λ e. sym e ∙ q) (λ e. ap (at p) (sym q ∙ e) ∙ root-top t z h ∙ sym e ∙ q) (each z)
+
     pub compressed-climbs : Climbs n p s → Climbs n p′ s
     compressed-climbs t =
         record {
@@ -59,6 +63,6 @@ module _ {p p′ : List ℕ} {v r : ℕ} (i : RootIs p v r) (w : Compressed p v 
         record {
           climbs = compressed-climbs (t .climbs);
           counted = λ x h q.
-              t .counted x h (⊎-elim (λ e. sym e ∙ q) (λ e. ap (at p) (sym q ∙ e) ∙ root-top (t .climbs) x h ∙ sym e ∙ q) (each x))
+              t .counted x h (roots-were (t .climbs) x h q)
               ∙ count-cong n _ _ (λ z l. ap (λ y. eqb y x) (sym (compressed-roots (t .climbs) z l)));
         }

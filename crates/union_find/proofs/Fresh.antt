@@ -9,7 +9,8 @@ use lib.ListN.{set, length-set}
 use lib.Seq.{getD-set-same, getD-set-other}
 use lib.Dec.{eqb}
 use Rattle.model.proofs.SumLaws.{count-cong}
-use Rattle.union_find.specs.Trees.{rootOf, Trees, Room, Alone}
+use Rattle.union_find.specs.Trees.{rootOf, Trees, Alone}
+use Rattle.union_find.specs.Packed.{rootMark, Fits, EachAlone}
 use Rattle.union_find.proofs.Roots.{root-self}
 use Rattle.union_find.proofs.Counts.{count-one}
 
@@ -32,29 +33,21 @@ module _ {n : ℕ} {p s : List ℕ} (w : Alone n p s) where
             w .one r h ∙ sym (count-cong n _ _ (λ v l. ap (λ z. eqb z r) (alone-root v l)) ∙ count-one n r h);
       }
 
-pub alone-none : {n : ℕ} {p s : List ℕ} → Room n p s → Alone 0 p s
-alone-none w =
-    record { room = omega arith; own = λ v h. absurd (not-suc-le-zero h); one = λ v h. absurd (not-suc-le-zero h) }
+-- The array, vertex after vertex
 
-pub room-set : {n : ℕ} {p s : List ℕ} → Room n p s → (i x y : ℕ) → Room n (set p i x) (set s i y)
-room-set {n} {p} {s} w i x y =
-    record { limit = w .limit; parents = rw (length-set p i x) (w .parents); sizes = rw (length-set s i y) (w .sizes) }
+pub alone-none : {n : ℕ} {t : List ℕ} → Fits n t → EachAlone 0 t
+alone-none w = record { fits = omega arith; one = λ v h. absurd (not-suc-le-zero h) }
+
+pub fits-set : {n : ℕ} {t : List ℕ} → Fits n t → (i x : ℕ) → Fits n (set t i x)
+fits-set {n} {t} w i x = record { limit = w .limit; room = rw (length-set t i x) (w .room) }
 
 -- one vertex more
-pub alone-next : {n i : ℕ} {p s : List ℕ} → Alone i p s → Room n p s → i < n → Alone (i + 1) (set p i i) (set s i 1)
-alone-next {n} {i} {p} {s} w r h =
+pub alone-next : {n i : ℕ} {t : List ℕ} → EachAlone i t → Fits n t → i < n → EachAlone (i + 1) (set t i (rootMark + 1))
+alone-next {n} {i} {t} w r h =
     record {
-      room = record {
-        limit = omega (arith, r .limit);
-        parents = rw (length-set p i i) (omega (arith, r .parents));
-        sizes = rw (length-set s i 1) (omega (arith, r .sizes));
-      };
-      own = λ v l. elim (ℕ-discrete v i) [
-        | yes e ↦ rw e (getD-set-same p i i 0 (omega (arith, r .parents)))
-        | no e ↦ getD-set-other p i v i 0 e ∙ w .own v (omega arith)
-      ];
+      fits = record { limit = omega (arith, r .limit); room = rw (length-set t i (rootMark + 1)) (omega (arith, r .room)) };
       one = λ v l. elim (ℕ-discrete v i) [
-        | yes e ↦ rw e (getD-set-same s i 1 0 (omega (arith, r .sizes)))
-        | no e ↦ getD-set-other s i v 1 0 e ∙ w .one v (omega arith)
+        | yes e ↦ rw e (getD-set-same t i (rootMark + 1) 0 (omega (arith, r .room)))
+        | no e ↦ getD-set-other t i v (rootMark + 1) 0 e ∙ w .one v (omega arith)
       ];
     }

@@ -2,10 +2,11 @@ pub mod Roots
 pub mod Moved
 pub mod Counts
 pub mod Hanging
-pub mod JoinCases
 pub mod Unions
+pub mod Subtrees
 pub mod Compression
 pub mod Fresh
+pub mod Packing
+pub mod JoinCases
 pub mod Labels
-pub mod Subtrees
 pub mod CompressLoop

@@ -6,23 +6,9 @@ use mathlib.Core.Bool.{Bool, cond}
 use mathlib.Core.List.{List}
 use lib.Dec.{eqb, ltb}
 use Rattle.model.specs.Components.{label}
-use Rattle.model.specs.declared.numbers.Vertex.{Vertex}
 use Rattle.union_find.specs.declared.Joined.{Joined}
 use Rattle.union_find.specs.declared.Joined.the-variants.{Hung, Already}
-use Rattle.union_find.specs.Trees.{at, rootOf, Trees, TwoRoots, hung, grown}
-
--- a and b are vertices of these trees
-pub record Joinable (parent size : List ℕ) (a b : ℕ) : Type 0 where
-  pub count : ℕ
-  pub trees : Trees count parent size
-  pub first : a < count
-  pub second : b < count
-
--- x and y are two roots of these trees
-pub record Hangable (parent size : List ℕ) (x y : ℕ) : Type 0 where
-  pub count : ℕ
-  pub trees : Trees count parent size
-  pub roots : TwoRoots count parent x y
+use Rattle.union_find.specs.Trees.{at, rootOf, hung, grown}
 
 -- Two vertices of one tree stay as they are. Otherwise the smaller tree is hung under the root of the larger; among equals, the
 -- second under the first.
@@ -45,11 +31,6 @@ parentsAfter (Already root) parent = parent
 abbrev pub sizesAfter : Joined → List ℕ → List ℕ
 sizesAfter (Hung child root) size = grown size (child .0) (root .0)
 sizesAfter (Already root) size = size
-
-pub record Hangs (parent size : List ℕ) (x y : Vertex) (r : Joined) (parent′ size′ : List ℕ) : Type 0 where
-  pub answer : r ≡ Hung x y
-  pub parents : parent′ ≡ hung parent (x .0) (y .0)
-  pub sizes : size′ ≡ grown size (x .0) (y .0)
 
 pub record Joins (parent size : List ℕ) (a b : ℕ) (r : Joined) (parent′ size′ : List ℕ) : Type 0 where
   pub answer : r ≡ joined parent size a b

@@ -1,2 +1,3 @@
 pub mod Trees
 pub mod Joining
+pub mod Packed

@@ -6,6 +6,7 @@ use mathlib.Core.Logic.{⊎-elim}
 use native.Mathlib.Omega.{arith}
 use borrow.Author.Needs.{needs}
 use lib.ListN.{length}
+use Rattle.union_find.specs.Packed.{parentsOf}
 use Rattle.parts.specs.RootParities.{Cleared}
 use Rattle.parts.proofs.Rooting.{root-limited}
 use Rattle.parts.proofs.Clearing.{cleared-none, cleared-one, cleared-pass}
@@ -13,10 +14,10 @@ use Rattle.parts.proofs.clear_open.Statement.{statement}
 use Rattle.parts.proofs.clear_open.Tie as tie
 
 abbrev Inv-loop : tie.InvT-loop
-Inv-loop parent opened odd₀ v₀ odd v = (v ≤ length opened) × Cleared v parent opened odd₀ odd
+Inv-loop tree opened odd₀ v₀ odd v = (v ≤ length opened) × Cleared v (parentsOf tree) opened odd₀ odd
 
 abbrev μ-loop : tie.MeasureT-loop
-μ-loop parent opened odd₀ v₀ odd v = length opened - v
+μ-loop tree opened odd₀ v₀ odd v = length opened - v
 
 loop-holds : tie.Need-loop-holds Inv-loop μ-loop
 loop-holds c = (search needs, cleared-none (c .before .pre .long))

@@ -11,13 +11,13 @@ use Rattle.parts.proofs.connect.Statement.{statement}
 use Rattle.parts.proofs.connect.Tie as tie
 
 abbrev Inv-loop : tie.InvT-loop
-Inv-loop vertices ends parent₀ size₀ edges e₀ parent size e = (e ≤ edges) × ConnectsUpTo vertices ends e parent size
+Inv-loop vertices ends tree₀ edges e₀ tree e = (e ≤ edges) × ConnectsUpTo vertices ends e tree
 
 abbrev μ-loop : tie.MeasureT-loop
-μ-loop vertices ends parent₀ size₀ edges e₀ parent size e = edges - e
+μ-loop vertices ends tree₀ edges e₀ tree e = edges - e
 
 alone-requires : tie.Need-alone-requires Inv-loop μ-loop
-alone-requires c κs = let limit = c .before .before .before .pre .vertex-limit in fresh-room vertexLimit limit limit
+alone-requires c κs = let limit = c .before .before .pre .vertex-limit in fresh-room vertexLimit limit limit
 
 loop-holds : tie.Need-loop-holds Inv-loop μ-loop
 loop-holds c = (search needs, connects-none (c .alone .ensures))
@@ -33,13 +33,13 @@ second-end-requires c κs = search needs
 
 join-requires : tie.Need-join-requires Inv-loop μ-loop
 join-requires c κs =
-    let turn = c .before .before .before .before in
-    let start = turn .before .before .before .before .before .before in
+    let turn = c .before .before .before in
+    let start = turn .before .before .before .before .before in
     let first = start .pre .first-in-range _ (turn .loop-test .taken) in
     let second = start .pre .second-in-range _ (turn .loop-test .taken) in
     record {
       count = start .args .vertices;
-      trees = turn .before .loop .inv .1 .trees;
+      packed = turn .before .loop .inv .1 .packed;
       first = omega arith;
       second = omega arith;
     }
@@ -52,10 +52,10 @@ loop-less c = search needs
 
 loop-again : tie.Need-loop-again Inv-loop μ-loop
 loop-again c =
-    let second = c .before .before .before in
+    let second = c .before .before in
     let first = second .before in
     let turn = first .before in
-    let start = turn .before .before .before .before .before .before in (
+    let start = turn .before .before .before .before .before in (
       search needs,
       connects-more (start .pre) (turn .loop-test .taken) (turn .before .loop .inv .1)
           (first .first-end .ensures) (second .second-end .ensures) (c .join .ensures),
@@ -64,7 +64,7 @@ loop-again c =
 returns : tie.Need-returns Inv-loop μ-loop
 returns c =
     let l = c .before .loop in
-    let start = c .before .before .before .before .before .before in
+    let start = c .before .before .before .before .before in
     let done : l .e ≡ edgesOf (start .args .ends .now) = omega arith in
     connects-whole (rw done at (l .inv .1))
 

@@ -3,16 +3,17 @@ use Prim.Native.Nat.{_≤_, _-_}
 use borrow.Author.Needs.{needs}
 use borrow.Author.Tests.{eq-eqb, ne-eqb}
 use Rattle.board.proofs.Searching.{Passed, passed-none, passed-more, ends-at, ends-nowhere}
+use Rattle.union_find.specs.Packed.{parentsOf}
 use Rattle.parts.specs.RootParities.{marked}
 use Rattle.parts.proofs.Rooting.{root-limited}
 use Rattle.parts.proofs.first_marked.Statement.{statement}
 use Rattle.parts.proofs.first_marked.Tie as tie
 
 abbrev Inv-loop : tie.InvT-loop
-Inv-loop vertices parent odd next₀ next = Passed (marked parent odd) next × (next ≤ vertices)
+Inv-loop vertices tree odd next₀ next = Passed (marked (parentsOf tree) odd) next × (next ≤ vertices)
 
 abbrev μ-loop : tie.MeasureT-loop
-μ-loop vertices parent odd next₀ next = vertices - next
+μ-loop vertices tree odd next₀ next = vertices - next
 
 loop-holds : tie.Need-loop-holds Inv-loop μ-loop
 loop-holds c = (passed-none _, search needs)

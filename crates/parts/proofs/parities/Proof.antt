@@ -6,6 +6,7 @@ use native.Mathlib.Omega.{arith}
 use borrow.Author.Needs.{needs}
 use lib.ListN.{length}
 use Rattle.model.specs.Board.{vertexLimit}
+use Rattle.union_find.specs.Packed.{parentsOf}
 use Rattle.parts.specs.RootParities.{Parities}
 use Rattle.parts.proofs.Rooting.{root-limited}
 use Rattle.parts.proofs.Flipping.{parities-none, parity-small, parities-flip, parities-pass}
@@ -13,10 +14,10 @@ use Rattle.parts.proofs.parities.Statement.{statement}
 use Rattle.parts.proofs.parities.Tie as tie
 
 abbrev Inv-loop : tie.InvT-loop
-Inv-loop parent syndrome odd₀ v₀ odd v = (v ≤ length syndrome) × Parities v parent syndrome odd
+Inv-loop tree syndrome odd₀ v₀ odd v = (v ≤ length syndrome) × Parities v (parentsOf tree) syndrome odd
 
 abbrev μ-loop : tie.MeasureT-loop
-μ-loop parent syndrome odd₀ v₀ odd v = length syndrome - v
+μ-loop tree syndrome odd₀ v₀ odd v = length syndrome - v
 
 loop-holds : tie.Need-loop-holds Inv-loop μ-loop
 loop-holds c = (search needs, parities-none vertexLimit refl)

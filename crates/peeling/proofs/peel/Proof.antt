@@ -3,17 +3,18 @@ use mathlib.Core.Path.{_≡_}
 use native.Mathlib.Omega.{arith}
 use borrow.Author.Needs.{needs}
 use Rattle.model.specs.Board.{vertexLimit}
+use Rattle.union_find.specs.Packed.{parentsOf}
 use Rattle.peeling.proofs.CutLaws.{cut-bound}
 use Rattle.peeling.proofs.PeelLoop.{PeelingFrom, span-room, ends-flippable, from-start, from-cuttable, from-next, from-done}
 use Rattle.peeling.proofs.peel.Statement.{statement}
 use Rattle.peeling.proofs.peel.Tie as tie
 
 abbrev Inv-loop : tie.InvT-loop
-Inv-loop vertices ends support oddEnds correction₀ parent taken links listed odd₀ k₀ count₀ correction odd k count =
-    PeelingFrom vertices ends support oddEnds parent correction odd k count
+Inv-loop vertices ends support oddEnds correction₀ tree taken links listed odd₀ k₀ count₀ correction odd k count =
+    PeelingFrom vertices ends support oddEnds (parentsOf tree) correction odd k count
 
 abbrev μ-loop : tie.MeasureT-loop
-μ-loop vertices ends support oddEnds correction₀ parent taken links listed odd₀ k₀ count₀ correction odd k count = k
+μ-loop vertices ends support oddEnds correction₀ tree taken links listed odd₀ k₀ count₀ correction odd k count = k
 
 span-requires : tie.Need-span-requires Inv-loop μ-loop
 span-requires c κs =

@@ -3,34 +3,28 @@ use Prim.Native.Nat.{_-_, _≤_}
 use mathlib.Core.Path.{_≡_}
 use native.Mathlib.Omega.{arith}
 use borrow.Author.Needs.{needs}
-use Rattle.union_find.specs.Trees.{Room, Alone}
-use Rattle.union_find.proofs.Fresh.{alone-none, alone-next, room-set}
+use Rattle.union_find.specs.Packed.{Fits, EachAlone}
+use Rattle.union_find.proofs.Fresh.{alone-none, alone-next, fits-set}
 use Rattle.union_find.proofs.alone.Statement.{statement}
 use Rattle.union_find.proofs.alone.Tie as tie
 
 abbrev Inv-loop : tie.InvT-loop
-Inv-loop vertices parent₀ size₀ v₀ parent size v = (v ≤ vertices) × Room vertices parent size × Alone v parent size
+Inv-loop vertices tree₀ v₀ tree v = (v ≤ vertices) × Fits vertices tree × EachAlone v tree
 
 abbrev μ-loop : tie.MeasureT-loop
-μ-loop vertices parent₀ size₀ v₀ parent size v = vertices - v
+μ-loop vertices tree₀ v₀ tree v = vertices - v
 
 loop-holds : tie.Need-loop-holds Inv-loop μ-loop
 loop-holds c = (search needs, c .pre, alone-none (c .pre))
 
-cast-parent : tie.Need-cast-parent Inv-loop μ-loop
-cast-parent c = search needs
+add-tree : tie.Need-add-tree Inv-loop μ-loop
+add-tree c = search needs
 
-mul-parent : tie.Need-mul-parent Inv-loop μ-loop
-mul-parent c = search needs
+mul-tree : tie.Need-mul-tree Inv-loop μ-loop
+mul-tree c = search needs
 
-element-write-parent : tie.Need-element-write-parent Inv-loop μ-loop
-element-write-parent c = search needs
-
-mul-size : tie.Need-mul-size Inv-loop μ-loop
-mul-size c = search needs
-
-element-write-size : tie.Need-element-write-size Inv-loop μ-loop
-element-write-size c = search needs
+element-write-tree : tie.Need-element-write-tree Inv-loop μ-loop
+element-write-tree c = search needs
 
 add-v : tie.Need-add-v Inv-loop μ-loop
 add-v c = search needs
@@ -41,7 +35,7 @@ loop-less c = search needs
 loop-again : tie.Need-loop-again Inv-loop μ-loop
 loop-again c =
     let i = c .before .loop .inv in
-    (search needs, room-set (i .1) _ _ _, alone-next (i .2) (i .1) (c .loop-test .taken))
+    (search needs, fits-set (i .1) _ _, alone-next (i .2) (i .1) (c .loop-test .taken))
 
 returns : tie.Need-returns Inv-loop μ-loop
 returns c =
@@ -56,11 +50,9 @@ alone-spec =
     Inv-loop
     μ-loop
     loop-holds
-    cast-parent
-    mul-parent
-    element-write-parent
-    mul-size
-    element-write-size
+    add-tree
+    mul-tree
+    element-write-tree
     add-v
     loop-less
     loop-again

@@ -1,4 +1,5 @@
 -- `union_find::hang` meets its contract: the sizes of two trees add up to no more than there are vertices. Assumes nothing.
+use mathlib.Core.Path.{refl}
 use native.Mathlib.Omega.{arith}
 use borrow.Author.Needs.{needs}
 use Rattle.union_find.proofs.Hanging.{both-fit}
@@ -11,37 +12,50 @@ cast-x c = search needs
 cast-y : tie.Need-cast-y
 cast-y c = search needs
 
-mul-parent : tie.Need-mul-parent
-mul-parent c = search needs
-
-element-write-parent : tie.Need-element-write-parent
-element-write-parent c = search needs
-
 mul-size : tie.Need-mul-size
 mul-size c = search needs
 
 element-copy-out-size : tie.Need-element-copy-out-size
 element-copy-out-size c = search needs
 
-mul-size-2 : tie.Need-mul-size-2
-mul-size-2 c = search needs
+sub-size : tie.Need-sub-size
+sub-size c =
+    let h = c .before .before .before .pre in
+    omega (arith, h .packed .told _ (h .roots .x-inside) (h .roots .x-root))
 
-element-copy-out-size-2 : tie.Need-element-copy-out-size-2
-element-copy-out-size-2 c = search needs
+mul-tree : tie.Need-mul-tree
+mul-tree c = search needs
 
-add-size : tie.Need-add-size
-add-size c =
+element-copy-out-tree : tie.Need-element-copy-out-tree
+element-copy-out-tree c = search needs
+
+add-tree : tie.Need-add-tree
+add-tree c =
     let h = c .before .before .before .before .pre in
-    record { fits = omega (arith, both-fit (h .trees) (h .roots), h .trees .climbs .limit) }
+    record {
+      fits = omega (
+        arith,
+        h .packed .told _ (h .roots .x-inside) (h .roots .x-root),
+        h .packed .told _ (h .roots .y-inside) (h .roots .y-root),
+        both-fit (h .packed .trees) (h .roots),
+        h .packed .trees .climbs .limit,
+      );
+    }
 
-mul-size-3 : tie.Need-mul-size-3
-mul-size-3 c = search needs
+mul-tree-2 : tie.Need-mul-tree-2
+mul-tree-2 c = search needs
 
-element-write-size : tie.Need-element-write-size
-element-write-size c = search needs
+element-write-tree : tie.Need-element-write-tree
+element-write-tree c = search needs
+
+mul-tree-3 : tie.Need-mul-tree-3
+mul-tree-3 c = search needs
+
+element-write-tree-2 : tie.Need-element-write-tree-2
+element-write-tree-2 c = search needs
 
 returns : tie.Need-returns
-returns c = search needs
+returns c = record { answer = refl; after = refl }
 
 pub hang-spec : {M : Type 1} → statement M
 hang-spec =
@@ -49,13 +63,14 @@ hang-spec =
     (tie.spec
     cast-x
     cast-y
-    mul-parent
-    element-write-parent
     mul-size
     element-copy-out-size
-    mul-size-2
-    element-copy-out-size-2
-    add-size
-    mul-size-3
-    element-write-size
+    sub-size
+    mul-tree
+    element-copy-out-tree
+    add-tree
+    mul-tree-2
+    element-write-tree
+    mul-tree-3
+    element-write-tree-2
     returns)

@@ -43,31 +43,31 @@ element-copy-out-if2-2 c =
 
 hang-requires : tie.Need-hang-requires
 hang-requires c κs =
-    let k = c .before .before .before .before .before .before .before .before .before .before in
+    let k = c .before .before .before .before .before .before .before .before .before in
     let pre = k .before .before .before .before .pre in
     hangable pre (k .before .before .root-of .ensures) (k .root-of2 .ensures)
-    (c .before .before .before .before .before .before .before .if1 .left)
+    (c .before .before .before .before .before .before .if1 .left)
 
 returns-2 : tie.Need-returns-2
 returns-2 c =
-    let k = c .before .before .before .before .before .before .before .before .before .before .before in
+    let k = c .before .before .before .before .before .before .before .before .before .before in
     let pre = k .before .before .before .before .pre in
     joins-first pre (k .before .before .root-of .ensures) (k .root-of2 .ensures)
-    (c .before .before .before .before .before .before .before .before .if1 .left) (c .before .before .before .if2 .taken) (c .hang .ensures)
+    (c .before .before .before .before .before .before .before .if1 .left) (c .before .before .if2 .taken) (c .hang .ensures)
 
 hang-requires-2 : tie.Need-hang-requires-2
 hang-requires-2 c κs =
-    let k = c .before .before .before .before .before .before .before .before .before .before in
+    let k = c .before .before .before .before .before .before .before .before .before in
     let pre = k .before .before .before .before .pre in
     hangable-back pre (k .before .before .root-of .ensures) (k .root-of2 .ensures)
-    (c .before .before .before .before .before .before .before .if1 .left)
+    (c .before .before .before .before .before .before .if1 .left)
 
 returns-3 : tie.Need-returns-3
 returns-3 c =
-    let k = c .before .before .before .before .before .before .before .before .before .before .before in
+    let k = c .before .before .before .before .before .before .before .before .before .before in
     let pre = k .before .before .before .before .pre in
     joins-second pre (k .before .before .root-of .ensures) (k .root-of2 .ensures)
-    (c .before .before .before .before .before .before .before .before .if1 .left) (c .before .before .before .if2 .left) (c .hang2 .ensures)
+    (c .before .before .before .before .before .before .before .if1 .left) (c .before .before .if2 .left) (c .hang2 .ensures)
 
 pub join-spec : {M : Type 1} → statement M
 join-spec =

@@ -103,12 +103,12 @@ returns-3 c =
 
 -- Some are
 
-abbrev opened-at : tie.After-ran → tie.After-run
-opened-at c = ran-at (c .before .before)
+abbrev opened-at : tie.After-figure2 → tie.After-run
+opened-at c = ran-at (c .before .before .before .before .before .before)
 
 labels-of-requires : tie.Need-labels-of-requires
 labels-of-requires c κs =
-    let ran = opened-at (c .before .before) in
+    let ran = opened-at c in
     let told = ran .before .before in
     let looked = told .before .before in
     let start = start-of looked in
@@ -118,7 +118,7 @@ labels-of-requires c κs =
 odd-ends-requires : tie.Need-odd-ends-requires
 odd-ends-requires c κs =
     let named = c .before in
-    let ran = opened-at (named .before .before .before) in
+    let ran = opened-at (named .before) in
     let told = ran .before .before in
     let looked = told .before .before in
     let start = start-of looked in
@@ -132,7 +132,7 @@ slice-aggregate-peel : tie.Need-slice-aggregate-peel
 slice-aggregate-peel c =
     let marked = c .before .before in
     let named = marked .before .before in
-    let ran = opened-at (named .before .before .before) in
+    let ran = opened-at (named .before) in
     let told = ran .before .before in
     let looked = told .before .before in
     let start = start-of looked in
@@ -143,7 +143,7 @@ peel-requires-2 : tie.Need-peel-requires-2
 peel-requires-2 c κs =
     let marked = c .before .before .before in
     let named = marked .before .before in
-    let ran = opened-at (named .before .before .before) in
+    let ran = opened-at (named .before) in
     let told = ran .before .before in
     let looked = told .before .before in
     let start = start-of looked in
@@ -161,7 +161,7 @@ returns-4 c =
     let peeled = c .before .before in
     let marked = peeled .before .before .before .before in
     let named = marked .before .before in
-    let ran = opened-at (named .before .before .before) in
+    let ran = opened-at (named .before) in
     let told = ran .before .before in
     let looked = told .before .before in
     let start = start-of looked in

@@ -5,6 +5,7 @@ use native.Mathlib.Numerals.{add-one}
 use native.Mathlib.Omega.{arith}
 use borrow.Author.Needs.{needs}
 use Rattle.model.specs.Board.{vertexLimit}
+use Rattle.union_find.specs.Packed.{parentsOf}
 use Rattle.decoder.specs.Figures.{namesBy}
 use Rattle.decoder.specs.TreeLabels.{Labelled}
 use Rattle.decoder.proofs.NameLaws.{label-none, label-next}
@@ -12,10 +13,10 @@ use Rattle.decoder.proofs.labels.labels_of.Statement.{statement}
 use Rattle.decoder.proofs.labels.labels_of.Tie as tie
 
 abbrev Inv-loop : tie.InvT-loop
-Inv-loop vertices parent figure labels₀ v₀ labels v = (v ≤ vertices) × Labelled v parent (namesBy figure) labels
+Inv-loop vertices tree figure labels₀ v₀ labels v = (v ≤ vertices) × Labelled v (parentsOf tree) (namesBy figure) labels
 
 abbrev μ-loop : tie.MeasureT-loop
-μ-loop vertices parent figure labels₀ v₀ labels v = vertices - v
+μ-loop vertices tree figure labels₀ v₀ labels v = vertices - v
 
 loop-holds : tie.Need-loop-holds Inv-loop μ-loop
 loop-holds c = (search needs, label-none _ _ vertexLimit refl)

@@ -4,6 +4,7 @@ use mathlib.Core.Path.{_≡_, subst}
 use native.Mathlib.Numerals.{add-one}
 use native.Mathlib.Omega.{arith}
 use borrow.Author.Needs.{needs}
+use Rattle.union_find.specs.Packed.{parentsOf}
 use Rattle.decoder.specs.Figures.{namesBy}
 use Rattle.decoder.specs.Shutting.{ListShuttable, ShutUpTo}
 use Rattle.decoder.proofs.ShutLaws.{at-vertex, shut-none, shut-first, shut-second, shut-next}
@@ -11,11 +12,11 @@ use Rattle.decoder.proofs.shutting.shut_listed.Statement.{statement}
 use Rattle.decoder.proofs.shutting.shut_listed.Tie as tie
 
 abbrev Inv-loop : tie.InvT-loop
-Inv-loop parent ends filled count exposure₀ figure₀ i₀ exposure figure i =
-    (i ≤ count) × ((w : ListShuttable parent (namesBy figure₀) ends filled count exposure₀ figure₀) → ShutUpTo w i exposure figure)
+Inv-loop tree ends filled count exposure₀ figure₀ i₀ exposure figure i =
+    (i ≤ count) × ((w : ListShuttable (parentsOf tree) (namesBy figure₀) ends filled count exposure₀ figure₀) → ShutUpTo w i exposure figure)
 
 abbrev μ-loop : tie.MeasureT-loop
-μ-loop parent ends filled count exposure₀ figure₀ i₀ exposure figure i = count - i
+μ-loop tree ends filled count exposure₀ figure₀ i₀ exposure figure i = count - i
 
 loop-holds : tie.Need-loop-holds Inv-loop μ-loop
 loop-holds c = (search needs, shut-none)

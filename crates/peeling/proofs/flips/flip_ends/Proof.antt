@@ -8,17 +8,18 @@ use borrow.Author.Tests.{eq-eqb, ne-eqb}
 use denote.Ref.{now}
 use lib.ListN.{length}
 use Rattle.model.specs.Sums.{ones}
+use Rattle.union_find.specs.Packed.{parentsOf}
 use Rattle.peeling.specs.TreeFlips.{AllFlippable, AllFlipped}
 use Rattle.peeling.proofs.FlipLaws.{all-flippable, still-flippable, none-flipped, flipped-next, flipped-passed}
 use Rattle.peeling.proofs.flips.flip_ends.Statement.{statement}
 use Rattle.peeling.proofs.flips.flip_ends.Tie as tie
 
 abbrev Inv-loop : tie.InvT-loop
-Inv-loop oddEnds parent odd₀ v₀ v-end odd v =
-    (v ≤ length oddEnds) × AllFlippable (length oddEnds) parent odd × AllFlipped parent v (ones oddEnds) odd₀ odd
+Inv-loop oddEnds tree odd₀ v₀ v-end odd v =
+    (v ≤ length oddEnds) × AllFlippable (length oddEnds) (parentsOf tree) odd × AllFlipped (parentsOf tree) v (ones oddEnds) odd₀ odd
 
 abbrev μ-loop : tie.MeasureT-loop
-μ-loop oddEnds parent odd₀ v₀ v-end odd v = length oddEnds - v
+μ-loop oddEnds tree odd₀ v₀ v-end odd v = length oddEnds - v
 
 loop-holds : tie.Need-loop-holds Inv-loop μ-loop
 loop-holds c = (search needs, c .before .pre, none-flipped _ _ _)

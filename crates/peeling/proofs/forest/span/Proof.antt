@@ -4,31 +4,30 @@ use mathlib.Core.Path.{sym, _∙_}
 use mathlib.Core.Logic.{inl, inr}
 use native.Mathlib.Omega.{arith}
 use borrow.Author.Needs.{needs}
-use Rattle.model.specs.Board.{vertexLimit}
-use Rattle.peeling.proofs.SpanLaws.{Spanning, fresh-room, spanning-start, take-room, spanning-passed, spanning-next, spanning-done}
+use Rattle.peeling.proofs.SpanLaws.{Spanning, tree-fits, spanning-start, take-room, spanning-passed, spanning-next, spanning-done}
 use Rattle.peeling.proofs.forest.span.Statement.{statement}
 use Rattle.peeling.proofs.forest.span.Tie as tie
 
 abbrev Inv-loop : tie.InvT-loop
-Inv-loop vertices ends support parent₀ taken₀ links₀ size₀ edges count₀ left₀ parent taken links size count left =
-    (left ≤ edges) × Spanning vertices ends support parent size taken links (edges - left) count
+Inv-loop vertices ends support tree₀ taken₀ links₀ edges count₀ left₀ tree taken links count left =
+    (left ≤ edges) × Spanning vertices ends support tree taken links (edges - left) count
 
 abbrev μ-loop : tie.MeasureT-loop
-μ-loop vertices ends support parent₀ taken₀ links₀ size₀ edges count₀ left₀ parent taken links size count left = left
+μ-loop vertices ends support tree₀ taken₀ links₀ edges count₀ left₀ tree taken links count left = left
 
 alone-requires : tie.Need-alone-requires Inv-loop μ-loop
-alone-requires c κs = let pre = c .before .before .before .before .pre in fresh-room vertexLimit (pre .board .vertex-limit) pre
+alone-requires c κs = tree-fits (c .before .before .before .pre)
 
 loop-holds : tie.Need-loop-holds Inv-loop μ-loop
 loop-holds c =
-    let start = c .before .before .before .before .before in
+    let start = c .before .before .before .before in
     (search needs, spanning-start (omega arith) (start .pre) (c .alone .ensures))
 
 sub-e : tie.Need-sub-e Inv-loop μ-loop
 sub-e c = search needs
 
-shared-slice-read-t19 : tie.Need-shared-slice-read-t19 Inv-loop μ-loop
-shared-slice-read-t19 c = search needs
+shared-slice-read-t17 : tie.Need-shared-slice-read-t17 Inv-loop μ-loop
+shared-slice-read-t17 c = search needs
 
 is-full-requires : tie.Need-is-full-requires Inv-loop μ-loop
 is-full-requires c κs = search needs
@@ -38,14 +37,14 @@ cast-number c = search needs
 
 take-requires : tie.Need-take-requires Inv-loop μ-loop
 take-requires c κs =
-    let turn = c .before .before .before .before .before .before .before in
-    let start = turn .before .before .before .before .before .before .before in
+    let turn = c .before .before .before .before .before .before in
+    let start = turn .before .before .before .before .before .before in
     record {
       vertices = start .args .vertices;
       edges = _;
       board = start .pre .board;
       edge = omega (arith, turn .loop-test .taken);
-      trees = turn .before .loop .inv .1 .trees;
+      packed = turn .before .loop .inv .1 .packed;
       room = take-room (start .pre .board) (turn .before .loop .inv .1) (omega (arith, turn .loop-test .taken));
     }
 
@@ -59,14 +58,14 @@ loop-again : tie.Need-loop-again Inv-loop μ-loop
 loop-again c =
     let tested = c .before in
     let turn = tested .before .before in
-    let start = turn .before .before .before .before .before .before .before in
+    let start = turn .before .before .before .before .before .before in
     let i = turn .before .loop .inv .1 in
     elim (c .if1 .came) [
-      | inl w ↦ rw (w .6, w .7, w .8, w .9, w .10) (
+      | inl w ↦ rw (w .5, w .6, w .7, w .8) (
         search needs,
-        spanning-next (start .pre .board) i (omega arith) (sym (tested .is-full .ensures) ∙ w .0 .taken) (w .5 .ensures) (omega arith),
+        spanning-next (start .pre .board) i (omega arith) (sym (tested .is-full .ensures) ∙ w .0 .taken) (w .4 .ensures) (omega arith),
       )
-      | inr w ↦ rw (w .1, w .2, w .3, w .4, w .5) (
+      | inr w ↦ rw (w .1, w .2, w .3, w .4) (
         search needs,
         spanning-passed (start .pre .board) i (omega arith) (sym (tested .is-full .ensures) ∙ w .0 .left) (omega arith),
       )
@@ -74,7 +73,7 @@ loop-again c =
 
 returns : tie.Need-returns Inv-loop μ-loop
 returns c =
-    let start = c .before .before .before .before .before .before .before in
+    let start = c .before .before .before .before .before .before in
     spanning-done (start .pre .board) (omega arith) (c .before .loop .inv .1)
 
 pub span-spec : {M : Type 1} → statement M
@@ -86,7 +85,7 @@ span-spec =
     alone-requires
     loop-holds
     sub-e
-    shared-slice-read-t19
+    shared-slice-read-t17
     is-full-requires
     cast-number
     take-requires

@@ -16,12 +16,12 @@ add-next c = search needs
 
 join-requires : tie.Need-join-requires
 join-requires c κs =
-    let second = c .before .before in
+    let second = c .before in
     let first = second .before in
     let pre = first .before .before .pre in
     record {
       count = pre .vertices;
-      trees = pre .trees;
+      packed = pre .packed;
       first = rw (first .first-end .ensures) (pre .board .first-in-range _ (pre .edge));
       second = rw (second .second-end .ensures) (pre .board .second-in-range _ (pre .edge));
     }
@@ -47,7 +47,7 @@ enum-told c = search needs
 returns : tie.Need-returns
 returns c =
     let met = c .before .before .before in
-    let second = met .before .before .before in
+    let second = met .before .before in
     let first = second .before in
     appended _ _
     (rw (first .first-end .ensures, second .second-end .ensures, c .before .child .given .1) at (met .join .ensures))
@@ -56,7 +56,7 @@ returns c =
 returns-2 : tie.Need-returns-2
 returns-2 c =
     let met = c .before .before in
-    let second = met .before .before .before in
+    let second = met .before .before in
     let first = second .before in
     passed _
     (rw (first .first-end .ensures, second .second-end .ensures, c .enum-told .given .1) at (met .join .ensures))

@@ -12,9 +12,9 @@ compress-requires c κs = search needs
 
 returns : tie.Need-returns
 returns c =
-    let start = c .before .before .before .before .before .before .before in
-    finds (start .args .self) _ _ _ (start .pre) (c .before .before .compress .ensures)
-    (c .before .before .before .before .root-of .ensures)
+    let start = c .before .before .before .before .before .before in
+    finds (start .args .self) _ _ _ (start .pre) (c .before .compress .ensures)
+    (c .before .before .before .root-of .ensures)
 
 pub find-spec : {M : Type 1} → statement M
 find-spec = tie.close (tie.spec root-of-requires compress-requires returns)

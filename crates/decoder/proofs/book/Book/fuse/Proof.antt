@@ -12,23 +12,23 @@ find-requires-2 c κs = search needs
 
 join-requires : tie.Need-join-requires
 join-requires c κs =
-    let second = c .before .before .before .before .before .before .before in
+    let second = c .before .before .before .before .before in
     let first = second .before .before .before in
     roots-joinable (first .before .args .self) _ _ (first .before .pre) _ _ (first .find .ensures) (second .find2 .ensures)
 
 merge-requires : tie.Need-merge-requires
 merge-requires c κs =
     let joined = c .before in
-    let second = joined .before .before .before .before .before .before .before .before in
+    let second = joined .before .before .before .before .before .before in
     let first = second .before .before .before in
-    fuse-mergeable (first .before .args .self) _ _ (first .before .pre) _ _ (first .find .ensures) (second .find2 .ensures) _ _ _ (joined .join .ensures)
+    fuse-mergeable (first .before .args .self) _ _ (first .before .pre) _ _ (first .find .ensures) (second .find2 .ensures) _ _ (joined .join .ensures)
 
 returns : tie.Need-returns
 returns c =
     let joined = c .before .before in
-    let second = joined .before .before .before .before .before .before .before .before in
+    let second = joined .before .before .before .before .before .before in
     let first = second .before .before .before in
-    fuses (first .before .args .self) _ _ (first .before .pre) _ _ (first .find .ensures) (second .find2 .ensures) _ _ _ (joined .join .ensures)
+    fuses (first .before .args .self) _ _ (first .before .pre) _ _ (first .find .ensures) (second .find2 .ensures) _ _ (joined .join .ensures)
     _ (c .merge .ensures)
 
 pub fuse-spec : {M : Type 1} → statement M

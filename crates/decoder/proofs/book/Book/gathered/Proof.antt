@@ -8,7 +8,7 @@ use native.Mathlib.Omega.{arith}
 use lib.ListN.{length}
 use borrow.Author.Needs.{needs}
 use Rattle.decoder.specs.Rings.{Rings}
-use Rattle.decoder.specs.Books.{lowsOf, BothKept}
+use Rattle.decoder.specs.Books.{parentsBy, lowsOf, BothKept}
 use Rattle.decoder.proofs.BookLaws.{united-together}
 use Rattle.decoder.proofs.Fusing.{both-rooted, both-named, joined-rings}
 use Rattle.decoder.proofs.Gathering.{Gathering, fresh-rings, gather-none, gather-kept, gather-full, gather-other, gather-all}
@@ -18,7 +18,7 @@ use Rattle.decoder.proofs.book.Book.gathered.Tie as tie
 abbrev Inv-loop : tie.InvT-loop
 Inv-loop vertices ends opened syndrome support exposure ring₀ book₀ e₀ ring book e =
     (e ≤ length support)
-    × (Gathering vertices ends opened support book₀ e book × Rings (book .vertices) (book .parent) (lowsOf book) exposure ring)
+    × (Gathering vertices ends opened support book₀ e book × Rings (book .vertices) (parentsBy book) (lowsOf book) exposure ring)
 
 abbrev μ-loop : tie.MeasureT-loop
 μ-loop vertices ends opened syndrome support exposure ring₀ book₀ e₀ ring book e = length support - e
@@ -119,7 +119,7 @@ loop-again c =
 
 returns : tie.Need-returns Inv-loop μ-loop
 returns c =
-    let at = c .before in
+    let at = c .before .before .before in
     let start = at .before .before .before .before .before .before in
     let fresh = at .before .fresh .ensures in
     let p : at .loop .e ≡ length (start .args .support .now) = omega arith in

@@ -10,6 +10,7 @@ use lib.ListN.{length, getD}
 use borrow.Author.Needs.{needs}
 use Rattle.model.specs.Board.{edgeLimit}
 use Rattle.decoder.specs.declared.book.Book.{Book}
+use Rattle.union_find.specs.Packed.{parentsOf}
 use Rattle.decoder.specs.Figures.{namesBy}
 use Rattle.decoder.specs.Rings.{Rings}
 use Rattle.decoder.specs.Books.{BothKept, FusesListed}
@@ -20,20 +21,20 @@ use Rattle.decoder.proofs.book.Book.grow.Statement.{statement}
 use Rattle.decoder.proofs.book.Book.grow.Tie as tie
 
 -- the book of the arrays
-abbrev made : ℕ → List ℕ → List ℕ → List ℕ → Book
-made vertices parent size figure = record { vertices = vertices; parent = parent; size = size; figure = figure }
+abbrev made : ℕ → List ℕ → List ℕ → Book
+made vertices tree figure = record { vertices = vertices; tree = tree; figure = figure }
 
 abbrev Inv-loop : tie.InvT-loop
-Inv-loop ends latest earlier support exposure ring₀ filled vertices parent₀ size₀ figure₀ count i₀ ring parent size figure i =
+Inv-loop ends latest earlier support exposure ring₀ filled vertices tree₀ figure₀ count i₀ ring tree figure i =
     (i ≤ count)
-    × (FusesListed (made vertices parent₀ size₀ figure₀) ends filled i (made vertices parent size figure)
-    × Rings vertices parent (namesBy figure) exposure ring)
+    × (FusesListed (made vertices tree₀ figure₀) ends filled i (made vertices tree figure)
+    × Rings vertices (parentsOf tree) (namesBy figure) exposure ring)
 
 abbrev μ-loop : tie.MeasureT-loop
-μ-loop ends latest earlier support exposure ring₀ filled vertices parent₀ size₀ figure₀ count i₀ ring parent size figure i = count - i
+μ-loop ends latest earlier support exposure ring₀ filled vertices tree₀ figure₀ count i₀ ring tree figure i = count - i
 
 abbrev start-at : tie.After-raise-arg4 Inv-loop μ-loop → tie.Start Inv-loop μ-loop
-start-at c = c .before .before .before .before .before .before .before .before .before .before
+start-at c = c .before .before .before .before .before .before .before .before .before
 
 raise-requires : tie.Need-raise-requires Inv-loop μ-loop
 raise-requires c κs =
@@ -122,7 +123,7 @@ turn c = c .before .before .before
 abbrev bookAt : tie.In-loop Inv-loop μ-loop → Book
 bookAt c =
     let loop = c .before .loop in
-    made (start-of (raised-at c) .args .self .vertices) (loop .parent) (loop .size) (loop .figure)
+    made (start-of (raised-at c) .args .self .vertices) (loop .tree) (loop .figure)
 
 kept-at : (c : tie.After-second-end Inv-loop μ-loop) →
     BothKept (bookAt (turn c)) (c .before .first-end .result .0) (c .second-end .result .0)
@@ -151,8 +152,8 @@ loop-less : tie.Need-loop-less Inv-loop μ-loop
 loop-less c = search needs
 
 -- a book with its own number of vertices is that book
-with-count : (b : Book) (n : ℕ) → b .vertices ≡ n → made n (b .parent) (b .size) (b .figure) ≡ b
-with-count b n q = ap (λ k. made k (b .parent) (b .size) (b .figure)) (sym q)
+with-count : (b : Book) (n : ℕ) → b .vertices ≡ n → made n (b .tree) (b .figure) ≡ b
+with-count b n q = ap (λ k. made k (b .tree) (b .figure)) (sym q)
 
 loop-again : tie.Need-loop-again Inv-loop μ-loop
 loop-again c =
@@ -168,11 +169,11 @@ loop-again c =
           (λ w.
           let unites = w .5 .ensures .unites in
           let same = with-count (w .5 .result .book) _ (unites .vertices) in
-          rw (w .10, w .11, w .12, w .13) (
+          rw (w .9, w .10, w .11) (
             rw same (fuse-next _ _ _ _ _ now _ _ _ (first .first-end .ensures) (second .second-end .ensures) unites),
             rw (sym (unites .vertices)) (joined-rings _ _ _ (kept-at second) _ (tested .apart .ensures) (w .0 .taken) _ _ _ (w .4 .ensures) _ unites (at .loop .inv .1 .1)),
           ))
-          (λ w. rw (w .1, w .2, w .3, w .4) (
+          (λ w. rw (w .1, w .2, w .3) (
             fuse-next _ _ _ _ _ now _ _ _ (first .first-end .ensures) (second .second-end .ensures)
                 (united-together (bookAt test) _ _ _ (now .good) (tested .apart .ensures) (w .0 .left)),
             at .loop .inv .1 .1,
