@@ -118,9 +118,9 @@ static inline const char *surface_refusal_text(unsigned number)
 /* Bytes of stack that each call needs: what was measured, rounded up to a multiple of 4,096, and 4,096
  * more for memcpy and memset, all that the library asks of the C library. The calls of one thread don't
  * nest, so the largest of those that it makes is enough. */
-#define SURFACE_STACK_DECODE 69632
-#define SURFACE_STACK_DECODE_ROUNDS 69632
-#define SURFACE_STACK_VERDICT 77824
+#define SURFACE_STACK_DECODE 57344
+#define SURFACE_STACK_DECODE_ROUNDS 57344
+#define SURFACE_STACK_VERDICT 65536
 #define SURFACE_STACK_DISTANCE 69632
 #define SURFACE_STACK_TORUS 8192
 #define SURFACE_STACK_PLANAR 8192

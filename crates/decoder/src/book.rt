@@ -27,6 +27,7 @@ ghost use Rattle.decoder.specs.Books.{Fresh, Gatherable, Gathers, Kept, 
 // is kept.
 pub(crate) struct Book {
     pub(crate) vertices: usize,
+    // By each root, `union_find::ROOT` and the size of its tree. By any other vertex, its parent.
     pub(crate) tree: [u16; Book::VERTICES],
     // By the smallest vertex of each tree, which names it, its figure: the boundary size, with what the choice needs beside it. By a root that
     // is not the smallest vertex of its tree, `Figure::NAME` and that vertex. By any other no figure.

@@ -5,9 +5,9 @@ use mathlib.Core.Bool.{Bool, true, false, cond}
 use mathlib.Core.List.{List, [], _∷_, _++_}
 use native.Mathlib.Nat.{not-suc-le-zero, le-of-suc-le-suc}
 use native.Mathlib.Omega.{arith}
-use lib.ListN.{length, getD, set, take, drop, replicate, length-replicate}
+use lib.ListN.{length, getD, set, take, replicate, length-replicate}
 use borrow.Author.Tests.{eqb-true, eqb-false}
-use lib.Seq.{ext-getD, getD-set-same, getD-set-other, length-take-le, length-front}
+use lib.Seq.{ext-getD, getD-set-same, getD-set-other, length-take-le}
 use lib.Dec.{eqb}
 use Rattle.model.specs.Sums.{Set, bit, values, ones, bytes}
 use Rattle.model.proofs.Bits.{eqb-bit}
@@ -62,7 +62,3 @@ getD-set {A} l i j a d h = go (eqb i j) refl
 -- the front of an array of one value has its length
 pub front-long : (m n x : ℕ) → m ≤ n → length (take m (replicate n x)) ≡ m
 front-long m n x h = length-take-le m (replicate n x) (omega (arith, length-replicate n x))
-
--- .. and so has the array once its front was filled
-pub filled-long : (m n : ℕ) (l : List ℕ) → length l ≡ m → m ≤ n → length (l ++ drop m (replicate n 0)) ≡ n
-filled-long m n l p h = length-front (replicate n 0) l m (p ∙ sym (front-long m n 0 h)) ∙ length-replicate n 0

@@ -91,7 +91,3 @@ root-label m u v hu hv q = eqb-true _ _ (sym (m .same u v hu hv) ∙ eq-eqb _ _ 
 
 pub label-root : {n : ℕ} {p l : List ℕ} → Mirrors n p l → (u v : ℕ) → u < n → v < n → label l u ≡ label l v → rootOf p u ≡ rootOf p v
 label-root m u v hu hv q = eqb-true _ _ (m .same u v hu hv ∙ eq-eqb _ _ q)
-
--- the trees mirror the same labels where every vertex keeps its root
-pub mirrors-kept : {n : ℕ} {p p′ l : List ℕ} → ((u : ℕ) → u < n → rootOf p′ u ≡ rootOf p u) → Mirrors n p l → Mirrors n p′ l
-mirrors-kept same m = record { same = λ u v hu hv. ap₂ eqb (same u hu) (same v hv) ∙ m .same u v hu hv }

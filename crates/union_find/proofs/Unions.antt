@@ -1,4 +1,4 @@
--- What the answer of `join` tells: which root was hung under which, that trees stay trees, and that exactly two of them became one.
+-- What the answer of `join` tells: which root was hung under which, and that exactly two trees became one.
 -- Assumes nothing.
 use Prim.Native.Nat.{ℕ, _≤_, _<_}
 use mathlib.Core.Path.{_≡_, refl, sym, ap, ap₂, _∙_}
@@ -16,7 +16,7 @@ use Rattle.union_find.specs.Trees.{at, rootOf, Trees, TwoRoots, hung, gr
 use Rattle.union_find.specs.Joining.{Joins, joined, joinedBy, sameRoot}
 use Rattle.union_find.proofs.Roots.{root-top, root-inside}
 use Rattle.union_find.proofs.Moved.{both-same, moved-same}
-use Rattle.union_find.proofs.Hanging.{two-swapped, hung-root, hung-trees}
+use Rattle.union_find.proofs.Hanging.{two-swapped, hung-root}
 
 -- a tree was hung: the two roots are those of a and b, the one hung of the smaller tree
 pub record Hung-is (n : ℕ) (p s : List ℕ) (a b x y : ℕ) (p′ s′ : List ℕ) : Type 0 where
@@ -99,11 +99,6 @@ module _ {n : ℕ} {p s : List ℕ} {a b : ℕ} (t : Trees n p s) (ha : a < n) (
       go true same l q = record { one-root = eqb-true _ _ same; parents = k .parents; sizes = k .sizes }
       go false differ true q = apart-answers (sym q)
       go false differ false q = apart-answers (sym q)
-
-  -- joining leaves trees
-  pub joins-trees : {r : Joined} {p′ s′ : List ℕ} → Joins p s a b r p′ s′ → Trees n p′ s′
-  joins-trees {r = Hung x y} k = let w = hung-is k in rw (w .parents, w .sizes) (hung-trees t (w .roots))
-  joins-trees {r = Already z} k = let w = already-is k in rw (w .parents, w .sizes) t
 
   -- two vertices have one root exactly where they had before, or each lay in one of the two trees
   pub joins-same : {r : Joined} {p′ s′ : List ℕ} → Joins p s a b r p′ s′ → (u v : ℕ) → u < n → v < n

@@ -24,7 +24,9 @@ pub fn table(decoders: &mut Decoders) {
     println!(
         "decode, microseconds for a sheet: other boards and tori at about 5 %, best of {RUNS} runs"
     );
-    println!("               board    lit growths     table     tuned tuned/table    rounds");
+    println!(
+        "               board    lit growths     table     tuned tuned/table    listed listed/table    rounds"
+    );
     for (name, sheets) in rows() {
         row(decoders, name, &sheets);
     }
@@ -56,16 +58,17 @@ fn one(board: Board, lit: &[usize]) -> Vec<Sheet> {
 }
 
 fn row(decoders: &mut Decoders, name: &str, sheets: &[Sheet]) {
-    let growths = decoders.same_keys(&[Decoder::Tuned], sheets);
+    let growths = decoders.same_keys(sheets);
     decoders.same_rounds(sheets);
     let times = enough(decoders, sheets);
-    let lanes = [Decoder::Table, Decoder::Tuned, Decoder::Rounds].map(|by| (by, sheets));
-    let [table, tuned, rounds] = decoders.by_turns(lanes, BLOCK, times);
+    let lanes = [Decoder::Table, Decoder::Tuned, Decoder::Listed, Decoder::Rounds];
+    let lanes = lanes.map(|by| (by, sheets));
+    let [table, tuned, listed, rounds] = decoders.by_turns(lanes, BLOCK, times);
     let lit = sheets.iter().flat_map(|sheet| &sheet.syndrome).filter(|&&lit| lit == 1).count();
     let lit = lit as f64 / sheets.len() as f64;
-    let ratio = tuned / table;
+    let (by_tuned, by_listed) = (tuned / table, listed / table);
     println!(
-        "{name:>20} {lit:>6.1} {growths:>7.1} {table:>9.2} {tuned:>9.2} {ratio:>11.2} {rounds:>9.2}"
+        "{name:>20} {lit:>6.1} {growths:>7.1} {table:>9.2} {tuned:>9.2} {by_tuned:>11.2} {listed:>9.2} {by_listed:>12.2} {rounds:>9.2}"
     );
 }
 

@@ -1,9 +1,10 @@
-//! The library's decoders and the two programs to compare with, in one shape.
+//! The library's decoders and the three programs to compare with, in one shape.
 
 use std::hint::black_box;
 use std::time::Duration;
 
 use reference::{Key, RoundsKey, Sheet, decode_rounds};
+use table_bench::listed::Listed;
 use table_bench::plain::{Answer, Plain};
 use table_bench::tuned::Tuned;
 
@@ -15,9 +16,13 @@ pub enum Decoder {
     Table,
     Plain,
     Tuned,
+    Listed,
     /// The library's, in rounds.
     Rounds,
 }
+
+/// The programs that give the same keys as the library.
+const PROGRAMS: [Decoder; 3] = [Decoder::Plain, Decoder::Tuned, Decoder::Listed];
 
 /// What is timed by turns with others: a decoder on some sheets.
 pub type Lane<'a> = (Decoder, &'a [Sheet]);
@@ -26,6 +31,7 @@ pub type Lane<'a> = (Decoder, &'a [Sheet]);
 pub struct Decoders {
     plain: Plain,
     tuned: Box<Tuned>,
+    listed: Box<Listed>,
     support: Vec<u8>,
     correction: Vec<u8>,
 }
@@ -35,6 +41,7 @@ impl Default for Decoders {
         Decoders {
             plain: Plain::default(),
             tuned: Box::default(),
+            listed: Box::default(),
             support: vec![0; table::EDGES],
             correction: vec![0; table::EDGES],
         }
@@ -48,6 +55,7 @@ impl Decoders {
         match decoder {
             Decoder::Plain => self.plain.decode(sheet, support, correction),
             Decoder::Tuned => self.tuned.decode(sheet, support, correction),
+            Decoder::Listed => self.listed.decode(sheet, support, correction),
             Decoder::Table => {
                 let key = table::decode(lent(sheet), support, correction).ok()?;
                 Some((key.growths, key.edges))
@@ -73,14 +81,14 @@ impl Decoders {
         key
     }
 
-    /// Compares the library's keys with those of other programs, and returns the growths of a sheet,
-    /// in the mean.
-    pub fn same_keys(&mut self, others: &[Decoder], sheets: &[Sheet]) -> f64 {
+    /// Compares the library's keys with those of all programs, and returns the growths of a sheet, in
+    /// the mean.
+    pub fn same_keys(&mut self, sheets: &[Sheet]) -> f64 {
         let mut growths = 0;
         for sheet in sheets {
             let key = self.key(Decoder::Table, sheet);
-            for &other in others {
-                assert!(self.key(other, sheet) == key, "{other:?}: {sheet:?}");
+            for program in PROGRAMS {
+                assert!(self.key(program, sheet) == key, "{program:?}: {sheet:?}");
             }
             growths += key.growths;
         }

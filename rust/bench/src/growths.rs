@@ -35,8 +35,8 @@ fn still(board: &Board) -> Sheet {
 
 fn row(decoders: &mut Decoders, name: &str, grown: &[Sheet], times: usize) {
     let still = vec![still(&grown[0].board); grown.len()];
-    assert_eq!(decoders.same_keys(&[Decoder::Tuned], &still), 0.0);
-    let growths = decoders.same_keys(&[Decoder::Tuned], grown);
+    assert_eq!(decoders.same_keys(&still), 0.0);
+    let growths = decoders.same_keys(grown);
     let lanes = [&still[..], grown].map(|sheets| (Decoder::Table, sheets));
     let [call, whole] = decoders.by_turns(lanes, BLOCK, times).map(|time| 1000.0 * time);
     let growth = (whole - call) / growths;

@@ -1,6 +1,6 @@
-//! Prints the library's times beside those of two programs with the same steps, one plain and one
-//! tuned with care, which keep no boundary sizes; its times of decoding in rounds; and what a growth
-//! and each of the other calls costs.
+//! Prints the library's times beside those of programs with the same steps that keep no boundary
+//! sizes: one plain, one tuned with care, and one that has lists of each vertex's edges; its times of
+//! decoding in rounds; and what a growth and each of the other calls costs.
 //!
 //! All are built for release and run on one machine, on the same seeded sheets and into the same
 //! buffers, which are not cleared in between. Keys are compared on all sheets before a time is taken.

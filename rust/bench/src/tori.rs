@@ -1,4 +1,5 @@
-//! The first table: decoding on tori, beside both programs.
+//! The first table: decoding on tori, beside the two programs that make one pass over all vertices and
+//! edges at each choice.
 
 use reference::torus::torus;
 
@@ -21,7 +22,7 @@ pub fn table(decoders: &mut Decoders) {
 fn row(decoders: &mut Decoders, side: usize, rate: usize) {
     let board = torus(side);
     let sheets = flipped(&board, rate, SHEETS);
-    let growths = decoders.same_keys(&[Decoder::Plain, Decoder::Tuned], &sheets);
+    let growths = decoders.same_keys(&sheets);
     let lanes = [Decoder::Table, Decoder::Plain, Decoder::Tuned].map(|by| (by, &sheets[..]));
     let [table, plain, tuned] = decoders.by_turns(lanes, SHEETS, 1);
     let (by_plain, by_tuned) = (plain / table, tuned / table);

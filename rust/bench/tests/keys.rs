@@ -4,14 +4,16 @@ use reference::generators::{Kind, crowd_with_loops, open_board, path, sheet, sta
 use reference::planar::planar;
 use reference::torus::torus;
 use reference::{Board, Key, Random, Refusal, Sheet, decode};
+use table_bench::listed::Listed;
 use table_bench::plain::{Answer, Plain};
 use table_bench::tuned::Tuned;
 
-/// Both programs, with the arrays that they keep from one sheet to the next.
+/// The programs, with the arrays that they keep from one sheet to the next.
 #[derive(Default)]
 struct Programs {
     plain: Plain,
     tuned: Box<Tuned>,
+    listed: Box<Listed>,
 }
 
 impl Programs {
@@ -22,6 +24,9 @@ impl Programs {
         });
         answers("tuned", sheet, &key, |support, correction| {
             self.tuned.decode(sheet, support, correction)
+        });
+        answers("listed", sheet, &key, |support, correction| {
+            self.listed.decode(sheet, support, correction)
         });
     }
 }
@@ -80,6 +85,13 @@ fn large_sheets() {
             programs.agree(&Sheet { syndrome: board.syndrome(&error), loss, board });
         }
     }
+}
+
+/// A cluster of hundreds of vertices, of which one is on the boundary, so that it grows and the lone
+/// lit vertex never does.
+#[test]
+fn long_cluster() {
+    Programs::default().agree(&Sheet::new(path(1024), &[0, 1000], &[]));
 }
 
 /// Each buffer broken in turn is refused, and the sheet itself is not.

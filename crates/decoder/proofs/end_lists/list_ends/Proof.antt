@@ -13,13 +13,13 @@ use Rattle.decoder.proofs.end_lists.list_ends.Statement.{statement}
 use Rattle.decoder.proofs.end_lists.list_ends.Tie as tie
 
 abbrev Inv-loop : tie.InvT-loop
-Inv-loop ends latest₀ earlier₀ i₀ latest earlier i = (i ≤ length ends) × ListedUpTo i ends latest earlier
+Inv-loop ends latest₀ earlier₀ i₀ latest earlier i = ListedUpTo i ends latest earlier × (i ≤ length ends)
 
 abbrev μ-loop : tie.MeasureT-loop
 μ-loop ends latest₀ earlier₀ i₀ latest earlier i = length ends - i
 
 loop-holds : tie.Need-loop-holds Inv-loop μ-loop
-loop-holds c = (search needs, list-none _ (c .pre .1))
+loop-holds c = (list-none _ (c .pre .1), search needs)
 
 -- an end is a vertex
 vertex : (c : tie.In-loop Inv-loop μ-loop) → getD (c .before .before .args .ends .now) (c .before .loop .i) 0 < vertexLimit
@@ -68,14 +68,14 @@ loop-less c = search needs
 loop-again : tie.Need-loop-again Inv-loop μ-loop
 loop-again c =
     let test = c .before .before in
-    (search needs, rw add-one (list-one _ _ _ _ (place test) (vertex test) (test .before .loop .inv .1)))
+    (rw add-one (list-one _ _ _ _ (place test) (vertex test) (test .before .loop .inv .0)), search needs)
 
 returns : tie.Need-returns Inv-loop μ-loop
 returns c =
     let at = c .before in
     let ends = at .before .args .ends .now in
     let p : at .loop .i ≡ length ends = omega arith in
-    subst (λ k. ListedUpTo k ends (at .loop .latest) (at .loop .earlier)) p (at .loop .inv .1)
+    subst (λ k. ListedUpTo k ends (at .loop .latest) (at .loop .earlier)) p (at .loop .inv .0)
 
 pub list-ends-spec : {M : Type 1} → statement M
 list-ends-spec =
