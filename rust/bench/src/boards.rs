@@ -25,7 +25,7 @@ pub fn table(decoders: &mut Decoders) {
         "decode, microseconds for a sheet: other boards and tori at about 5 %, best of {RUNS} runs"
     );
     println!(
-        "               board    lit growths     table     tuned tuned/table    listed listed/table    rounds"
+        "               board    lit growths     table     tuned tuned/table    counted counted/table    rounds"
     );
     for (name, sheets) in rows() {
         row(decoders, name, &sheets);
@@ -61,14 +61,14 @@ fn row(decoders: &mut Decoders, name: &str, sheets: &[Sheet]) {
     let growths = decoders.same_keys(sheets);
     decoders.same_rounds(sheets);
     let times = enough(decoders, sheets);
-    let lanes = [Decoder::Table, Decoder::Tuned, Decoder::Listed, Decoder::Rounds];
+    let lanes = [Decoder::Table, Decoder::Tuned, Decoder::Counted, Decoder::Rounds];
     let lanes = lanes.map(|by| (by, sheets));
-    let [table, tuned, listed, rounds] = decoders.by_turns(lanes, BLOCK, times);
+    let [table, tuned, counted, rounds] = decoders.by_turns(lanes, BLOCK, times);
     let lit = sheets.iter().flat_map(|sheet| &sheet.syndrome).filter(|&&lit| lit == 1).count();
     let lit = lit as f64 / sheets.len() as f64;
-    let (by_tuned, by_listed) = (tuned / table, listed / table);
+    let (by_tuned, by_counted) = (tuned / table, counted / table);
     println!(
-        "{name:>20} {lit:>6.1} {growths:>7.1} {table:>9.2} {tuned:>9.2} {by_tuned:>11.2} {listed:>9.2} {by_listed:>12.2} {rounds:>9.2}"
+        "{name:>20} {lit:>6.1} {growths:>7.1} {table:>9.2} {tuned:>9.2} {by_tuned:>11.2} {counted:>9.2} {by_counted:>13.2} {rounds:>9.2}"
     );
 }
 

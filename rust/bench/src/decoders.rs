@@ -4,7 +4,7 @@ use std::hint::black_box;
 use std::time::Duration;
 
 use reference::{Key, RoundsKey, Sheet, decode_rounds};
-use table_bench::listed::Listed;
+use table_bench::counted::Counted;
 use table_bench::plain::{Answer, Plain};
 use table_bench::tuned::Tuned;
 
@@ -16,13 +16,13 @@ pub enum Decoder {
     Table,
     Plain,
     Tuned,
-    Listed,
+    Counted,
     /// The library's, in rounds.
     Rounds,
 }
 
 /// The programs that give the same keys as the library.
-const PROGRAMS: [Decoder; 3] = [Decoder::Plain, Decoder::Tuned, Decoder::Listed];
+const PROGRAMS: [Decoder; 3] = [Decoder::Plain, Decoder::Tuned, Decoder::Counted];
 
 /// What is timed by turns with others: a decoder on some sheets.
 pub type Lane<'a> = (Decoder, &'a [Sheet]);
@@ -31,7 +31,7 @@ pub type Lane<'a> = (Decoder, &'a [Sheet]);
 pub struct Decoders {
     plain: Plain,
     tuned: Box<Tuned>,
-    listed: Box<Listed>,
+    counted: Box<Counted>,
     support: Vec<u8>,
     correction: Vec<u8>,
 }
@@ -41,7 +41,7 @@ impl Default for Decoders {
         Decoders {
             plain: Plain::default(),
             tuned: Box::default(),
-            listed: Box::default(),
+            counted: Box::default(),
             support: vec![0; table::EDGES],
             correction: vec![0; table::EDGES],
         }
@@ -55,7 +55,7 @@ impl Decoders {
         match decoder {
             Decoder::Plain => self.plain.decode(sheet, support, correction),
             Decoder::Tuned => self.tuned.decode(sheet, support, correction),
-            Decoder::Listed => self.listed.decode(sheet, support, correction),
+            Decoder::Counted => self.counted.decode(sheet, support, correction),
             Decoder::Table => {
                 let key = table::decode(lent(sheet), support, correction).ok()?;
                 Some((key.growths, key.edges))

@@ -1,8 +1,8 @@
 //! The programs that the proved library is measured against. All take the same steps and keep no
 //! boundary sizes. [`plain`] and [`tuned`] make one pass over all vertices and edges at each choice;
-//! [`listed`] goes through lists of each vertex's edges instead.
+//! [`counted`] counts from the other side.
 
-pub mod listed;
+pub mod counted;
 pub mod plain;
 mod shared;
 pub mod tuned;

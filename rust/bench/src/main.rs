@@ -1,5 +1,5 @@
 //! Prints the library's times beside those of programs with the same steps that keep no boundary
-//! sizes: one plain, one tuned with care, and one that has lists of each vertex's edges; its times of
+//! sizes: one plain, one tuned with care, and one that counts from the other side; its times of
 //! decoding in rounds; and what a growth and each of the other calls costs.
 //!
 //! All are built for release and run on one machine, on the same seeded sheets and into the same

@@ -1,5 +1,5 @@
-//! What [`tuned`](crate::tuned) and [`listed`](crate::listed) have in common: all but how they count
-//! boundaries and how they raise the edges of a cluster that grows.
+//! What [`tuned`](crate::tuned) and [`counted`](crate::counted) have in common: all but how they
+//! count boundaries.
 //!
 //! What makes both fast: all arrays have fixed sizes and stay from one sheet to the next; each vertex
 //! has its cluster's label, found in one load; what goes over labels or figures is free of branches,
@@ -7,6 +7,7 @@
 //! has an entry for each number of 16 bits, or is gone into modulo its size.
 
 pub mod clusters;
+pub mod edges;
 pub mod figures;
 pub mod labels;
 mod peeling;

@@ -4,7 +4,7 @@ use reference::generators::{Kind, crowd_with_loops, open_board, path, sheet, sta
 use reference::planar::planar;
 use reference::torus::torus;
 use reference::{Board, Key, Random, Refusal, Sheet, decode};
-use table_bench::listed::Listed;
+use table_bench::counted::Counted;
 use table_bench::plain::{Answer, Plain};
 use table_bench::tuned::Tuned;
 
@@ -13,7 +13,7 @@ use table_bench::tuned::Tuned;
 struct Programs {
     plain: Plain,
     tuned: Box<Tuned>,
-    listed: Box<Listed>,
+    counted: Box<Counted>,
 }
 
 impl Programs {
@@ -25,8 +25,8 @@ impl Programs {
         answers("tuned", sheet, &key, |support, correction| {
             self.tuned.decode(sheet, support, correction)
         });
-        answers("listed", sheet, &key, |support, correction| {
-            self.listed.decode(sheet, support, correction)
+        answers("counted", sheet, &key, |support, correction| {
+            self.counted.decode(sheet, support, correction)
         });
     }
 }

@@ -3,41 +3,33 @@
 use reference::Sheet;
 
 use super::clusters::Clusters;
+use super::edges::Edges;
 use super::figures::Figures;
 use super::peeling::Peeling;
 use super::{pairs, rules};
 use crate::plain::Answer;
 
 /// What each program does in its own way.
-pub trait Growth {
+pub trait Counting {
     /// Begins a sheet. The clusters are those of the lost edges, and figures are counted from 0.
     fn start(&mut self, sheet: &Sheet, clusters: &Clusters, figures: &mut Figures);
 
     /// Finds the boundary size of each odd cluster anew, as its figure.
-    fn count(&mut self, clusters: &Clusters, figures: &mut Figures);
-
-    /// Step 4 but for the fusions: each edge that isn't full gains a half-edge for each end in the
-    /// chosen cluster. Those that are full then are listed.
-    fn raise(
-        &mut self,
-        chosen: u16,
-        clusters: &Clusters,
-        support: &mut [u8],
-        filled: &mut Vec<u16>,
-    );
+    fn count(&mut self, edges: &Edges, clusters: &Clusters, figures: &mut Figures);
 }
 
 /// A program, with the arrays that it works in and keeps from one sheet to the next.
 #[derive(Default)]
-pub struct Steps<G> {
+pub struct Steps<C> {
     clusters: Clusters,
+    edges: Edges,
     figures: Figures,
-    growth: G,
+    counting: C,
     filled: Vec<u16>,
     peeling: Peeling,
 }
 
-impl<G: Growth> Steps<G> {
+impl<C: Counting> Steps<C> {
     /// Decodes a sheet; none where it is refused, and then nothing is written.
     pub fn decode(&mut self, sheet: &Sheet, support: &mut [u8], correction: &mut [u8]) -> Answer {
         if !rules::kept(sheet, support, correction) {
@@ -69,12 +61,13 @@ impl<G: Growth> Steps<G> {
         let lost = pairs.iter().zip(&sheet.loss).filter(|(_, lost)| **lost == 1);
         self.clusters.find(sheet, lost.map(|(ends, _)| ends));
         self.figures.start(&self.clusters);
-        self.growth.start(sheet, &self.clusters, &mut self.figures);
+        self.edges.start(sheet);
+        self.counting.start(sheet, &self.clusters, &mut self.figures);
         let mut growths = 0;
         while let Some(chosen) = self.choose() {
             growths += 1;
             self.filled.clear();
-            self.growth.raise(chosen, &self.clusters, support, &mut self.filled);
+            self.edges.raise(chosen, &self.clusters, support, &mut self.filled);
             for &edge in &self.filled {
                 if let Some(fusion) = self.clusters.fuse(pairs[usize::from(edge)]) {
                     self.figures.fuse(fusion);
@@ -87,20 +80,7 @@ impl<G: Growth> Steps<G> {
     /// The label of the cluster that grows: of the odd ones with the smallest boundary that with the
     /// smallest vertex.
     fn choose(&mut self) -> Option<u16> {
-        self.growth.count(&self.clusters, &mut self.figures);
+        self.counting.count(&self.edges, &self.clusters, &mut self.figures);
         self.figures.least()
-    }
-}
-
-/// Gives an edge so many half-edges more, though no more than two in all, and lists it where it is
-/// full then. Does nothing where it was full before, or where the number is that of no edge.
-pub fn raise(edge: usize, gain: u8, support: &mut [u8], filled: &mut Vec<u16>) {
-    if let Some(support) = support.get_mut(edge)
-        && *support < 2
-    {
-        *support = 2.min(*support + gain);
-        if *support == 2 {
-            filled.push(edge as u16);
-        }
     }
 }

@@ -1,5 +1,5 @@
 -- `merge_roots` meets its contract. Assumes nothing.
-use mathlib.Core.Path.{sym, ap, _∙_}
+use mathlib.Core.Path.{refl}
 use native.Mathlib.Omega.{arith}
 use borrow.Author.Needs.{needs}
 use borrow.Author.Tests.{lt-ltb, le-ltb}
@@ -50,7 +50,7 @@ returns c =
     let carried = c .before .before in
     let test = carried .before .before in
     let known = test .before in
-    rw (← first-at known .name-at .ensures, ← second-at known .name-at2 .ensures, lt-ltb _ _ (test .if1 .taken), carried .carry .ensures)
+    rw (← first-at known .name-at .ensures, ← second-at known .name-at2 .ensures, lt-ltb _ _ (test .if1 .taken), carried .carry .ensures) refl
 
 returns-2 : tie.Need-returns-2
 returns-2 c =
