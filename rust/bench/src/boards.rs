@@ -2,17 +2,11 @@
 
 use std::time::Duration;
 
-use reference::generators::{crowd, path, ring};
-use reference::planar::planar;
-use reference::torus::torus;
-use reference::{Board, Random, Sheet};
+use reference::Sheet;
+use table_bench::sheets::other_boards;
 
 use crate::decoders::{Decoder, Decoders};
-use crate::sheets::{RATES, flipped};
 use crate::timing::RUNS;
-
-/// About 5 %.
-const RATE: usize = RATES[1];
 
 /// A row's sheets are gone through so often that the library takes this time at least.
 const ENOUGH: Duration = Duration::from_millis(20);
@@ -27,34 +21,9 @@ pub fn table(decoders: &mut Decoders) {
     println!(
         "               board    lit growths     table     tuned tuned/table    counted counted/table    rounds"
     );
-    for (name, sheets) in rows() {
+    for (name, sheets) in other_boards() {
         row(decoders, name, &sheets);
     }
-}
-
-/// Each row's name and its sheets.
-fn rows() -> Vec<(&'static str, Vec<Sheet>)> {
-    let multigraph = crowd(&mut Random::new(304), 1024, 4096);
-    let all_lost = |sheet: Sheet| Sheet { loss: vec![1; sheet.loss.len()], ..sheet };
-    vec![
-        ("torus-8", flipped(&torus(8), RATE, 500)),
-        ("torus-16", flipped(&torus(16), RATE, 200)),
-        ("torus-32", flipped(&torus(32), RATE, 50)),
-        ("planar-8", flipped(&planar(8), RATE, 500)),
-        ("planar-31", flipped(&planar(31), RATE, 50)),
-        ("path-1024", one(path(1024), &[0, 1023])),
-        ("multigraph-1024-4096", flipped(&multigraph, RATE / 2, 50)),
-        ("nothing-lit-8", one(torus(8), &[])),
-        ("nothing-lit-32", one(torus(32), &[])),
-        ("everything-lost-32", flipped(&torus(32), RATE, 50).into_iter().map(all_lost).collect()),
-        ("m1-ring-4", one(ring(), &[0, 3])),
-        ("m4-path-4", one(path(4), &[0, 3])),
-    ]
-}
-
-/// One sheet with these vertices lit, nothing lost.
-fn one(board: Board, lit: &[usize]) -> Vec<Sheet> {
-    vec![Sheet::new(board, lit, &[])]
 }
 
 fn row(decoders: &mut Decoders, name: &str, sheets: &[Sheet]) {

@@ -4,15 +4,15 @@ use std::hint::black_box;
 
 use reference::torus::torus;
 use reference::{Sheet, text};
+use table_bench::sheets::{RATE, flipped, lent};
 
-use crate::sheets::{RATES, flipped, lent};
 use crate::timing::{RUNS, best};
 
 pub fn table() {
     println!("other calls on the torus of a side, microseconds for a call, best of {RUNS} runs");
     println!("side  distance      read     write");
     for side in [4, 8, 16, 32] {
-        let sheet = &flipped(&torus(side), RATES[1], 1)[0];
+        let sheet = &flipped(&torus(side), RATE, 1)[0];
         let (distance, read, write) = (distance_time(sheet), read_time(sheet), write_time(sheet));
         println!("{side:>4} {distance:>9.2} {read:>9.2} {write:>9.2}");
     }

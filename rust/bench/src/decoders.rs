@@ -6,9 +6,9 @@ use std::time::Duration;
 use reference::{Key, RoundsKey, Sheet, decode_rounds};
 use table_bench::counted::Counted;
 use table_bench::plain::{Answer, Plain};
+use table_bench::sheets::lent;
 use table_bench::tuned::Tuned;
 
-use crate::sheets::lent;
 use crate::timing::{RUNS, each, time};
 
 #[derive(Clone, Copy, Debug)]

@@ -1,11 +1,11 @@
 //! The third table: what a call costs apart from growth, and what one growth costs.
 
+use reference::Sheet;
 use reference::generators::path;
 use reference::torus::torus;
-use reference::{Board, Sheet};
+use table_bench::sheets::{RATE, SIDES, flipped, still};
 
 use crate::decoders::{Decoder, Decoders};
-use crate::sheets::{RATES, flipped};
 use crate::timing::RUNS;
 
 /// How many sheets of each kind there are on a torus, and how many are timed together.
@@ -19,18 +19,11 @@ pub fn table(decoders: &mut Decoders) {
     println!("call = time with one edge lost and its two ends lit, where nothing grows;");
     println!("growth = (time at 5 % flips, or on the path with both ends lit, - call) / growths");
     println!("    board growths      call    growth");
-    for side in [8, 16, 32] {
-        let grown = flipped(&torus(side), RATES[1], SHEETS);
+    for side in SIDES {
+        let grown = flipped(&torus(side), RATE, SHEETS);
         row(decoders, &format!("torus-{side}"), &grown, 64 / side);
     }
     row(decoders, "path-1024", &[Sheet::new(path(1024), &[0, 1023], &[])], 10);
-}
-
-/// A sheet on which nothing grows, though all else is done: the edge in the middle is lost, and its
-/// two ends are lit.
-fn still(board: &Board) -> Sheet {
-    let middle = board.edges() / 2;
-    Sheet::new(board.clone(), &board.ends_of(middle), &[middle])
 }
 
 fn row(decoders: &mut Decoders, name: &str, grown: &[Sheet], times: usize) {

@@ -11,7 +11,6 @@ mod calls;
 mod decoders;
 mod growths;
 mod machine;
-mod sheets;
 mod timing;
 mod tori;
 

@@ -2,17 +2,15 @@
 //! edges at each choice.
 
 use reference::torus::torus;
+use table_bench::sheets::{RATES, SHEETS, SIDES, flipped, flips};
 
 use crate::decoders::{Decoder, Decoders};
-use crate::sheets::{RATES, flipped, flips};
 use crate::timing::RUNS;
-
-const SHEETS: usize = 1000;
 
 pub fn table(decoders: &mut Decoders) {
     println!("decode, microseconds for a sheet: {SHEETS} seeded sheets, best of {RUNS} runs");
     println!("side flips growths     table     plain plain/table     tuned tuned/table");
-    for side in [8, 16, 32] {
+    for side in SIDES {
         for rate in RATES {
             row(decoders, side, rate);
         }
