@@ -3,7 +3,7 @@ use Prim.Native.Nat.{ℕ, zero, suc, _+_, _%_, _≤_, _<_}
 use mathlib.Core.Path.{_≡_, refl, sym, ap, ap₂, _∙_}
 use mathlib.Core.Bool.{Bool, true, false, _||_, or-true, or-false}
 use mathlib.Core.Logic.{_≢_}
-use native.Mathlib.Nat.{not-suc-le-zero, le-refl}
+use native.Mathlib.Nat.{not-suc-le-zero, le-refl, add-zero, add-suc}
 use native.Mathlib.Decide.{decLt}
 use native.Mathlib.Numerals.{add-one}
 use native.Mathlib.Omega.{arith}
@@ -60,6 +60,12 @@ nth (suc n) f k h =
       where
         none-left : bit (f n) ≡ 0 → ⊥
         none-left z = omega arith
+
+-- the first a numbers, then b more
+pub count-append : (a b : ℕ) (f : Set) → countUpTo (a + b) f ≡ countUpTo a f + countUpTo b (λ i. f (a + i))
+unfolding countUpTo
+count-append a zero f = rw (add-zero a) (omega arith)
+count-append a (suc b) f = rw (add-suc a b) (omega (arith, count-append a b f))
 
 -- a count of two sets that part a third
 pub count-parts :

@@ -6,7 +6,7 @@ use mathlib.Core.Logic.{_≢_}
 use native.Mathlib.Omega.{arith}
 use borrow.Author.Tests.{ne-eqb}
 use Rattle.model.specs.declared.refusal.Refusal.{Refusal}
-use Rattle.model.specs.declared.refusal.Refusal.the-variants.{VertexCount, EndCount, BufferLength, EndRange, MarkRange, SyndromeByte, LossByte, HandedByte, NoCorrection, TorusSide, TextLength, MalformedLine, TextBuffer, OpenByte, LitOpen, PlanarSide}
+use Rattle.model.specs.declared.refusal.Refusal.the-variants.{VertexCount, EndCount, BufferLength, EndRange, MarkRange, SyndromeByte, LossByte, HandedByte, NoCorrection, TorusSide, TextLength, MalformedLine, TextBuffer, RoundCount, OpenByte, LitOpen, PlanarSide}
 use Rattle.model.specs.Refusals.{numberOf, placeOf}
 use Rattle.model.specs.Packing.{packed, packedRefusal, refusalNumber, placeIn, firstValue, secondValue, unpackedRefusal, unpacked}
 
@@ -21,24 +21,25 @@ unpacked-first first second h = omega arith
 pub unpacked-second : (first second : ℕ) → second < 2 ^ 24 → secondValue (packed first second) ≡ second
 unpacked-second first second h = omega arith
 
--- a refusal's number is 1 to 18, and never 5 nor 15
-pub numbered : (n : Refusal) → (1 ≤ numberOf n) × (numberOf n ≤ 18) × (numberOf n ≢ 5) × (numberOf n ≢ 15)
-numbered VertexCount = (omega arith, omega arith, λ p. omega arith, λ p. omega arith)
-numbered EndCount = (omega arith, omega arith, λ p. omega arith, λ p. omega arith)
-numbered BufferLength = (omega arith, omega arith, λ p. omega arith, λ p. omega arith)
-numbered (EndRange e) = (omega arith, omega arith, λ p. omega arith, λ p. omega arith)
-numbered (MarkRange e) = (omega arith, omega arith, λ p. omega arith, λ p. omega arith)
-numbered (SyndromeByte v) = (omega arith, omega arith, λ p. omega arith, λ p. omega arith)
-numbered (LossByte e) = (omega arith, omega arith, λ p. omega arith, λ p. omega arith)
-numbered (HandedByte e) = (omega arith, omega arith, λ p. omega arith, λ p. omega arith)
-numbered (NoCorrection v) = (omega arith, omega arith, λ p. omega arith, λ p. omega arith)
-numbered (TorusSide side) = (omega arith, omega arith, λ p. omega arith, λ p. omega arith)
-numbered TextLength = (omega arith, omega arith, λ p. omega arith, λ p. omega arith)
-numbered (MalformedLine line) = (omega arith, omega arith, λ p. omega arith, λ p. omega arith)
-numbered TextBuffer = (omega arith, omega arith, λ p. omega arith, λ p. omega arith)
-numbered (OpenByte v) = (omega arith, omega arith, λ p. omega arith, λ p. omega arith)
-numbered (LitOpen v) = (omega arith, omega arith, λ p. omega arith, λ p. omega arith)
-numbered (PlanarSide side) = (omega arith, omega arith, λ p. omega arith, λ p. omega arith)
+-- a refusal's number is 1 to 18, and never 5
+pub numbered : (n : Refusal) → (1 ≤ numberOf n) × (numberOf n ≤ 18) × (numberOf n ≢ 5)
+numbered VertexCount = (omega arith, omega arith, λ p. omega arith)
+numbered EndCount = (omega arith, omega arith, λ p. omega arith)
+numbered BufferLength = (omega arith, omega arith, λ p. omega arith)
+numbered (EndRange e) = (omega arith, omega arith, λ p. omega arith)
+numbered (MarkRange e) = (omega arith, omega arith, λ p. omega arith)
+numbered (SyndromeByte v) = (omega arith, omega arith, λ p. omega arith)
+numbered (LossByte e) = (omega arith, omega arith, λ p. omega arith)
+numbered (HandedByte e) = (omega arith, omega arith, λ p. omega arith)
+numbered (NoCorrection v) = (omega arith, omega arith, λ p. omega arith)
+numbered (TorusSide side) = (omega arith, omega arith, λ p. omega arith)
+numbered TextLength = (omega arith, omega arith, λ p. omega arith)
+numbered (MalformedLine line) = (omega arith, omega arith, λ p. omega arith)
+numbered TextBuffer = (omega arith, omega arith, λ p. omega arith)
+numbered RoundCount = (omega arith, omega arith, λ p. omega arith)
+numbered (OpenByte v) = (omega arith, omega arith, λ p. omega arith)
+numbered (LitOpen v) = (omega arith, omega arith, λ p. omega arith)
+numbered (PlanarSide side) = (omega arith, omega arith, λ p. omega arith)
 
 pub unpacked-number : (n : Refusal) → refusalNumber (packedRefusal n) ≡ numberOf n
 unpacked-number n = let small = numbered n .1 in omega arith
@@ -61,6 +62,7 @@ by-number (TorusSide side) = refl
 by-number TextLength = refl
 by-number (MalformedLine line) = refl
 by-number TextBuffer = refl
+by-number RoundCount = refl
 by-number (OpenByte v) = refl
 by-number (LitOpen v) = refl
 by-number (PlanarSide side) = refl

@@ -1,10 +1,10 @@
--- The numbers of each call's rules, in the order in which they are tested. They rise in every call but three: the torus builder and the
--- planar builder test the side before the lengths, and the writer tests the open bytes before the text. Assumes nothing.
+-- The numbers of each call's rules, in the order in which they are tested. They rise in every call but four: the builders test the
+-- side before the lengths, that of the stack the rounds too, and the writer tests the open bytes before the text. Assumes nothing.
 use Prim.Native.Nat.{ℕ}
 use mathlib.Core.Path.{_≡_, refl}
 use mathlib.Core.List.{List, [], _∷_}
 use Rattle.model.specs.Board.{Board, Sheet}
-use Rattle.model.specs.Refusals.{decodeRules, verdictRules, distanceRules, torusRules, planarRules}
+use Rattle.model.specs.Refusals.{decodeRules, verdictRules, distanceRules, torusRules, planarRules, stackRules}
 use Rattle.model.specs.TextOutcomes.{Buffers, readRules, writeRules}
 use Rattle.model.specs.Precedence.{Numbered}
 
@@ -34,6 +34,11 @@ torus-numbers L ends marks = record { in-turn = (refl, (refl, tt)) }
 pub planar-numbers : (L : ℕ) (ends marks opened : List ℕ) → Numbered (18 ∷ 3 ∷ []) (planarRules L ends marks opened)
 unfolding planarRules
 planar-numbers L ends marks opened = record { in-turn = (refl, (refl, tt)) }
+
+pub stack-numbers : (L R : ℕ) (readings ends marks syndrome : List ℕ)
+    → Numbered (11 ∷ 15 ∷ 3 ∷ 7 ∷ []) (stackRules L R readings ends marks syndrome)
+unfolding stackRules
+stack-numbers L R readings ends marks syndrome = record { in-turn = (refl, (refl, (refl, (its-place 7, tt)))) }
 
 pub read-numbers : (text : List ℕ) (old : Buffers) → Numbered (3 ∷ 12 ∷ []) (readRules text old)
 unfolding readRules

@@ -1,15 +1,15 @@
 -- Laws of what is added up, counted or looked for below a bound. Assumes nothing.
-use Prim.Native.Nat.{ℕ, zero, suc, _+_, _≤_, _<_}
+use Prim.Native.Nat.{ℕ, zero, suc, _+_, _*_, _≤_, _<_}
 use mathlib.Core.Path.{_≡_, refl, sym, ap, ap₂, _∙_}
 use mathlib.Core.Bool.{Bool, true, false, cond, _&&_, _||_, and-true, and-false, or-false, false≢true}
 use mathlib.Core.Logic.{⊎-elim}
 use mathlib.Core.Option.{Option, none, some, Option·none-ne-some, Option·some-ne-none}
-use native.Mathlib.Nat.{le-refl, le-of-suc-le-suc, not-suc-le-zero, eq-or-lt-of-le}
+use native.Mathlib.Nat.{le-refl, le-of-suc-le-suc, not-suc-le-zero, eq-or-lt-of-le, add-zero, add-suc, zero-mul, suc-mul}
 use native.Mathlib.Omega.{arith}
 use borrow.Author.Tests.{eq-eqb, ne-eqb}
 use lib.Dec.{eqb}
 use Rattle.model.specs.Sums.{Set, _⊕_, bit, oddUpTo, countUpTo, someUpTo, orElse, firstUpTo}
-use Rattle.model.proofs.Xor.{xor-false, xor-swap, not-true-false}
+use Rattle.model.proofs.Xor.{xor-false, xor-assoc, xor-swap, not-true-false}
 use Rattle.model.proofs.Bits.{bit-bound}
 
 -- i below suc n is below n, or n itself
@@ -57,6 +57,19 @@ odd-at (suc n) a f h =
     below-suc n a h
     (λ l. rw (odd-at n a f l, ne-eqb a n (λ q. omega arith), and-false) (xor-false (f a)))
     (λ q. rw (odd-none n (λ i. f i && eqb a i) (λ i l. rw (ne-eqb a i (λ p. omega arith)) (and-false (f i))), eq-eqb a n q, q) (and-true (f n)))
+
+-- the first a numbers, then b more
+pub odd-append : (a b : ℕ) (f : Set) → oddUpTo (a + b) f ≡ oddUpTo a f ⊕ oddUpTo b (λ i. f (a + i))
+unfolding oddUpTo
+odd-append a zero f = rw (add-zero a) (sym (xor-false (oddUpTo a f)))
+odd-append a (suc b) f =
+    rw (add-suc a b, odd-append a b f) (xor-assoc (oddUpTo a f) (oddUpTo b (λ i. f (a + i))) (f (a + b)))
+
+-- R blocks of m numbers each, block by block
+pub odd-blocks : (R m : ℕ) (f : Set) → oddUpTo (R * m) f ≡ oddUpTo R (λ k. oddUpTo m (λ i. f (k * m + i)))
+unfolding oddUpTo
+odd-blocks zero m f = rw (zero-mul m)
+odd-blocks (suc R) m f = rw (suc-mul R m, odd-append (R * m) m f, odd-blocks R m f)
 
 -- Counts
 

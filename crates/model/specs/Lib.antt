@@ -15,11 +15,15 @@ pub mod Distance
 pub mod Identified
 pub mod Torus
 pub mod Planar
+pub mod Stack
+pub mod Histories
 pub mod Refusals
 pub mod Precedence
 pub mod Outcomes
 pub mod RoundsOutcomes
+pub mod StackOutcomes
 pub mod MarkedSheets
+pub mod StackSheets
 pub mod Text
 pub mod LineNumbers
 pub mod TextOutcomes

@@ -1,4 +1,4 @@
--- Document 01, "Numbers and places", and document 02, K3 and K5: the number and the place of each refusal, and the rules of each call in
+-- Document 01, "Numbers and places", and document 02, K1, K3 and K5: the number and the place of each refusal, and the rules of each call in
 -- the order of their tests. No refusal has number 5, which was that of equal ends.
 -- Assumes nothing.
 use Prim.Native.Nat.{ℕ, _*_, _/_, _%_}
@@ -8,12 +8,13 @@ use mathlib.Core.Option.{Option, none, some}
 use lib.ListN.{length, getD}
 use lib.Dec.{eqb, leb, ltb}
 use Rattle.model.specs.declared.refusal.Refusal.{Refusal}
-use Rattle.model.specs.declared.refusal.Refusal.the-variants.{VertexCount, EndCount, BufferLength, EndRange, MarkRange, SyndromeByte, LossByte, HandedByte, NoCorrection, TorusSide, TextLength, MalformedLine, TextBuffer, OpenByte, LitOpen, PlanarSide}
+use Rattle.model.specs.declared.refusal.Refusal.the-variants.{VertexCount, EndCount, BufferLength, EndRange, MarkRange, SyndromeByte, LossByte, HandedByte, NoCorrection, TorusSide, TextLength, MalformedLine, TextBuffer, RoundCount, OpenByte, LitOpen, PlanarSide}
 use Rattle.model.specs.Sums.{Set, ones, firstUpTo}
 use Rattle.model.specs.Board.{Board, Sheet, edges, firstEnd, secondEnd, vertexLimit, edgeLimit}
 use Rattle.model.specs.Decoding.{smallestOdd}
 use Rattle.model.specs.Torus.{leastSide, largestSide}
 use Rattle.model.specs.Planar.{leastPlanar, largestPlanar, planarVertices, planarEdges}
+use Rattle.model.specs.Stack.{stackVertices, stackEdges}
 
 -- the number of each refusal
 abbrev pub numberOf : Refusal → ℕ
@@ -30,6 +31,7 @@ numberOf (TorusSide side) = 11
 numberOf TextLength = 12
 numberOf (MalformedLine line) = 13
 numberOf TextBuffer = 14
+numberOf RoundCount = 15
 numberOf (OpenByte v) = 16
 numberOf (LitOpen v) = 17
 numberOf (PlanarSide side) = 18
@@ -49,6 +51,7 @@ placeOf (TorusSide side) = side
 placeOf TextLength = 0
 placeOf (MalformedLine line) = line
 placeOf TextBuffer = 0
+placeOf RoundCount = 0
 placeOf (OpenByte v) = v .0
 placeOf (LitOpen v) = v .0
 placeOf (PlanarSide side) = side
@@ -152,6 +155,10 @@ sideRule L = whole (leb leastSide L && leb L largestSide) (TorusSide L)
 abbrev pub planarSideRule : ℕ → Rule
 planarSideRule L = whole (leb leastPlanar L && leb L largestPlanar) (PlanarSide L)
 
+-- Rule 15: a stack has at least one round, and at most 1,024 vertices in all.
+abbrev pub roundsRule : ℕ → ℕ → Rule
+roundsRule L R = whole (leb 1 R && leb (stackVertices L R) vertexLimit) RoundCount
+
 -- how many edges the ends stand for: what the other lengths are held to
 abbrev pub edgesOf : List ℕ → ℕ
 edgesOf ends = length ends / 2
@@ -246,3 +253,22 @@ planarRules L ends marks opened =
 unfoldable pub planarRefusal : ℕ → List ℕ → List ℕ → List ℕ → Test
 unfolding planarRules
 planarRefusal L ends marks opened = refusalOf (planarRules L ends marks opened)
+
+-- readings and syndrome have a byte for each stacked vertex; all edges of the stack have two ends and a mark
+abbrev pub stackSized : ℕ → ℕ → List ℕ → List ℕ → List ℕ → List ℕ → Bool
+stackSized L R readings ends marks syndrome =
+    (sized readings (stackVertices L R) && sized syndrome (stackVertices L R))
+    && (sized ends (2 * stackEdges L R) && sized marks (stackEdges L R))
+
+-- The stack's builder is lent a reading byte for each stacked vertex, and buffers for all ends, marks and syndrome bytes. The side comes
+-- first, then the rounds, and the lengths are held to both; a reading byte above 1 is number 7, its place the stacked vertex.
+abbrev pub layerRules : ℕ → ℕ → List Rule
+layerRules L R = sideRule L ∷ roundsRule L R ∷ []
+
+unfoldable pub stackRules : ℕ → ℕ → List ℕ → List ℕ → List ℕ → List ℕ → List Rule
+stackRules L R readings ends marks syndrome =
+    layerRules L R ++ (lengthRule (stackSized L R readings ends marks syndrome) ∷ syndromeRule readings ∷ [])
+
+unfoldable pub stackRefusal : ℕ → ℕ → List ℕ → List ℕ → List ℕ → List ℕ → Test
+unfolding stackRules
+stackRefusal L R readings ends marks syndrome = refusalOf (stackRules L R readings ends marks syndrome)

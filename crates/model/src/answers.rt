@@ -28,7 +28,7 @@ pub enum Distance {
     Refused(Refusal),
 }
 
-// What the torus builder and the planar builder answer: the vertex count, or a refusal.
+// What the builders of tori, planar boards and stacks answer: the vertex count, or a refusal.
 pub enum Built {
     Vertices(usize),
     Refused(Refusal),

@@ -3,8 +3,7 @@ use crate::numbers::Vertex;
 ghost use mathlib.Core.Path.{_≡_};
 ghost use Rattle.model.specs.Refusals.{numberOf, placeOf};
 
-// Why a call refuses, with the place at which the rule is broken. The order is that of the numbers, from 1; no refusal has number 5, and
-// none 15.
+// Why a call refuses, with the place at which the rule is broken. The order is that of the numbers, from 1; no refusal has number 5.
 pub enum Refusal {
     VertexCount,
     EndCount,
@@ -19,6 +18,7 @@ pub enum Refusal {
     TextLength,
     MalformedLine(usize),
     TextBuffer,
+    RoundCount,
     OpenByte(Vertex),
     LitOpen(Vertex),
     PlanarSide(usize),
@@ -42,6 +42,7 @@ pub fn number(refusal: Refusal) -> u8
         Refusal::TextLength => 12,
         Refusal::MalformedLine(_) => 13,
         Refusal::TextBuffer => 14,
+        Refusal::RoundCount => 15,
         Refusal::OpenByte(_) => 16,
         Refusal::LitOpen(_) => 17,
         Refusal::PlanarSide(_) => 18,
@@ -66,6 +67,7 @@ pub fn place(refusal: Refusal) -> usize
         Refusal::TextLength => 0,
         Refusal::MalformedLine(line) => line,
         Refusal::TextBuffer => 0,
+        Refusal::RoundCount => 0,
         Refusal::OpenByte(v) => v.0 as usize,
         Refusal::LitOpen(v) => v.0 as usize,
         Refusal::PlanarSide(side) => side,
