@@ -5,7 +5,8 @@ use mathlib.Core.List.{List}
 use native.Mathlib.Omega.{arith}
 use lib.ListN.{length, set, length-set}
 use Rattle.model.specs.Planar.{planarFrom, planarTo, planarEnd}
-use Rattle.torus.proofs.Filling.{Filled, filled-more, filled-to}
+use Rattle.torus.specs.Filling.{Filled}
+use Rattle.torus.proofs.Filling.{filled-more, filled-to}
 use Rattle.planar.proofs.Edges.{first-end, second-end}
 
 pub ends-more :

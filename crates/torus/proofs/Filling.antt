@@ -1,4 +1,4 @@
--- A list that is filled from the front with a function's values, one store after the other. Assumes nothing.
+-- Laws of a list that is filled from the front with a function's values, one store after the other. Assumes nothing.
 use Prim.Native.Nat.{ℕ, _+_, _<_}
 use mathlib.Core.Path.{_≡_, _∙_}
 use mathlib.Core.List.{List}
@@ -8,10 +8,7 @@ use lib.ListN.{length, getD, set}
 use lib.Seq.{getD-set-same, getD-set-other}
 use Rattle.model.specs.Sums.{values}
 use Rattle.model.proofs.ListLaws.{values-are}
-
--- the first n places hold f's values
-pub record Filled (f : ℕ → ℕ) (n : ℕ) (l : List ℕ) : Type 0 where
-  pub at : (k : ℕ) → k < n → getD l k 0 ≡ f k
+use Rattle.torus.specs.Filling.{Filled}
 
 pub filled-none : (f : ℕ → ℕ) (l : List ℕ) → Filled f 0 l
 filled-none f l = record { at = λ k h. absurd (nothing k h) }

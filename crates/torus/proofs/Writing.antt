@@ -8,7 +8,8 @@ use lib.ListN.{length, set, length-set}
 use lib.Dec.{eqb}
 use Rattle.model.specs.Torus.{row, column, rightOf, below, torusEnd, torusMark}
 use Rattle.torus.proofs.Edges.{first-end, second-end, right-to, below-to, right-mark, below-mark}
-use Rattle.torus.proofs.Filling.{Filled, filled-more, filled-to}
+use Rattle.torus.specs.Filling.{Filled}
+use Rattle.torus.proofs.Filling.{filled-more, filled-to}
 
 -- the four ends of the edges 2v and 2v + 1
 end-0 : (L v : ℕ) → v ≡ torusEnd L (4 * v)

@@ -8,7 +8,7 @@ ghost use Rattle.model.specs.Torus.{row, column, rightOf, below};
 ghost use Rattle.torus.specs.Sides.{SideWithin};
 
 // The vertex to the right of v, in its row.
-pub(crate) fn right_of(side: usize, v: Vertex) -> Vertex
+pub fn right_of(side: usize, v: Vertex) -> Vertex
     requires { ⌜ SideWithin side × (v .0 < side * side) ⌝ }
     ensures { λ r. ⌜ r .0 ≡ rightOf side (v .0) ⌝ }
 {
@@ -20,7 +20,7 @@ pub(crate) fn right_of(side: usize, v: Vertex) -> Vertex
 }
 
 // The vertex below v, in its column.
-pub(crate) fn below_of(side: usize, v: Vertex) -> Vertex
+pub fn below_of(side: usize, v: Vertex) -> Vertex
     requires { ⌜ SideWithin side × (v .0 < side * side) ⌝ }
     ensures { λ r. ⌜ r .0 ≡ below side (v .0) ⌝ }
 {
@@ -32,7 +32,7 @@ pub(crate) fn below_of(side: usize, v: Vertex) -> Vertex
 }
 
 // The mark of the edge to the right of v: 1 in the last column.
-pub(crate) fn right_mark(side: usize, v: Vertex) -> u8
+pub fn right_mark(side: usize, v: Vertex) -> u8
     requires { ⌜ 0 < side ⌝ }
     ensures { λ r. ⌜ r ≡ cond (eqb (column side (v .0)) (side - 1)) 1 0 ⌝ }
 {
@@ -44,7 +44,7 @@ pub(crate) fn right_mark(side: usize, v: Vertex) -> u8
 }
 
 // The mark of the edge to the vertex below v: 2 in the last row.
-pub(crate) fn below_mark(side: usize, v: Vertex) -> u8
+pub fn below_mark(side: usize, v: Vertex) -> u8
     requires { ⌜ 0 < side ⌝ }
     ensures { λ r. ⌜ r ≡ cond (eqb (row side (v .0)) (side - 1)) 2 0 ⌝ }
 {

@@ -1,5 +1,5 @@
 // The torus of side L: its builder.
-mod cells;
+pub mod cells;
 
 use crate::cells::below_mark;
 use crate::cells::below_of;

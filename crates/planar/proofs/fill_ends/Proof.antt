@@ -4,7 +4,8 @@ use mathlib.Core.Path.{_≡_}
 use native.Mathlib.Omega.{arith}
 use lib.ListN.{length, length-set}
 use Rattle.model.specs.Planar.{planarEdges, planarEnd, planarEnds}
-use Rattle.torus.proofs.Filling.{Filled, filled-none, filled-all}
+use Rattle.torus.specs.Filling.{Filled}
+use Rattle.torus.proofs.Filling.{filled-none, filled-all}
 use Rattle.planar.proofs.Numbering.{edges-limit, vertices-limit}
 use Rattle.planar.proofs.Edges.{to-less}
 use Rattle.planar.proofs.Writing.{ends-more}

@@ -4,7 +4,8 @@ use mathlib.Core.Path.{_≡_, refl}
 use native.Mathlib.Omega.{arith}
 use lib.ListN.{length, length-set}
 use Rattle.model.specs.Planar.{planarEdges, planarMark, planarMarks}
-use Rattle.torus.proofs.Filling.{Filled, filled-none, filled-more, filled-all}
+use Rattle.torus.specs.Filling.{Filled}
+use Rattle.torus.proofs.Filling.{filled-none, filled-more, filled-all}
 use Rattle.planar.proofs.Numbering.{edges-limit}
 use borrow.Author.Needs.{needs}
 use Rattle.planar.proofs.fill_marks.Statement.{statement}

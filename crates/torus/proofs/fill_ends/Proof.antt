@@ -6,7 +6,8 @@ use lib.ListN.{length, length-set}
 use Rattle.model.specs.Torus.{torusEnd, torusEnds}
 use Rattle.torus.proofs.Numbering.{square-limit}
 use Rattle.torus.proofs.Writing.{ends-more}
-use Rattle.torus.proofs.Filling.{Filled, filled-none, filled-all}
+use Rattle.torus.specs.Filling.{Filled}
+use Rattle.torus.proofs.Filling.{filled-none, filled-all}
 use borrow.Author.Needs.{needs}
 use Rattle.torus.proofs.fill_ends.Statement.{statement}
 use Rattle.torus.proofs.fill_ends.Tie as tie

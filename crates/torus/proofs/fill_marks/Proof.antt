@@ -5,7 +5,8 @@ use native.Mathlib.Omega.{arith}
 use lib.ListN.{length, length-set}
 use Rattle.model.specs.Torus.{torusMark, torusMarks}
 use Rattle.torus.proofs.Numbering.{square-limit}
-use Rattle.torus.proofs.Filling.{Filled, filled-none, filled-all}
+use Rattle.torus.specs.Filling.{Filled}
+use Rattle.torus.proofs.Filling.{filled-none, filled-all}
 use Rattle.torus.proofs.Writing.{marks-more}
 use borrow.Author.Needs.{needs}
 use Rattle.torus.proofs.fill_marks.Statement.{statement}
