@@ -1,6 +1,6 @@
 -- Document 01, "Numbers and places", of each call: of all refusals that apply it gives the one with the smallest number, and of those with
--- that number the one with the smallest place. The numbers of the rules rise in all calls but three: the builders test the side before the
--- lengths, and the writer the open bytes before the text; of these it is the first rule of the list that is broken. Outside the lists stand
+-- that number the one with the smallest place. The numbers of the rules rise in all calls but four: the builders test the side before the
+-- lengths, that of the stack the rounds too, and the writer the open bytes before the text; of these it is the first rule of the list that is broken. Outside the lists stand
 -- 10, which decoding, in rounds too, and the verdict give only where nothing of their lists applies, and 13, which the reader gives alike.
 -- Assumes nothing.
 use Prim.Native.Nat.{ℕ, _*_, _≤_}
@@ -13,17 +13,18 @@ use native.Mathlib.Omega.{arith}
 use borrow.Author.Tests.{leb-true}
 use lib.Dec.{leb}
 use Rattle.model.specs.declared.refusal.Refusal.{Refusal}
-use Rattle.model.specs.declared.refusal.Refusal.the-variants.{BufferLength, TorusSide, PlanarSide, MalformedLine}
+use Rattle.model.specs.declared.refusal.Refusal.the-variants.{BufferLength, TorusSide, RoundCount, PlanarSide, MalformedLine}
 use Rattle.model.specs.declared.answers.Decoded.the-variants as decoded
 use Rattle.model.specs.declared.answers.RoundsDecoded.the-variants as inRounds
 use Rattle.model.specs.declared.answers.Verdict.the-variants as verdict
 use Rattle.model.specs.declared.answers.Distance.the-variants as distance
 use Rattle.model.specs.declared.answers.Built.the-variants as built
 use Rattle.model.specs.declared.answers.Reading.the-variants as reading
-use Rattle.model.specs.Board.{Board, Sheet}
+use Rattle.model.specs.Board.{Board, Sheet, vertexLimit}
 use Rattle.model.specs.Torus.{leastSide, largestSide}
 use Rattle.model.specs.Planar.{leastPlanar, largestPlanar, planarVertices, planarEdges}
-use Rattle.model.specs.Refusals.{Test, numberOf, noneAt, sized, lengthRule, sideRule, planarSideRule, decodeRules, decodeRefusal, verdictRules, verdictRefusal, distanceRules, distanceRefusal, torusRules, torusRefusal, planarRules, planarRefusal}
+use Rattle.model.specs.Stack.{stackVertices}
+use Rattle.model.specs.Refusals.{Test, numberOf, noneAt, sized, lengthRule, sideRule, planarSideRule, decodeRules, decodeRefusal, verdictRules, verdictRefusal, distanceRules, distanceRefusal, torusRules, torusRefusal, planarRules, planarRefusal, syndromeRule, stackSized, layerRules, stackRules, stackRefusal}
 use Rattle.model.specs.Outcomes.{answer, keyOrNone, decodeAnswer, judgedOrNone, verdictAnswer, distanceOf, distanceAnswer, torusAnswer}
 use Rattle.model.specs.RoundsOutcomes.{roundsOrNone, roundsAnswer}
 use Rattle.model.specs.Distance.{fewest}
@@ -32,7 +33,7 @@ use Rattle.model.specs.TextOutcomes.{Buffers, readRules, readRefusal, readOutco
 use Rattle.model.specs.Precedence.{Applies, here, there, NoneApplies, Decides, Smallest, AnswersSmallest}
 use Rattle.model.proofs.Contradiction.{zero-one}
 use Rattle.model.proofs.Xor.{and-left, and-right, not-false-true}
-use Rattle.model.proofs.RuleNumbers.{decode-numbers, verdict-numbers, distance-numbers, torus-numbers, planar-numbers, read-numbers, write-numbers}
+use Rattle.model.proofs.RuleNumbers.{decode-numbers, verdict-numbers, distance-numbers, torus-numbers, planar-numbers, stack-numbers, read-numbers, write-numbers}
 use Rattle.theory.proofs.Precedence.{empty-applies, decides-exactly, earlier-kept, other-number}
 use Rattle.theory.proofs.SmallestNumber.{smallest-exactly, answers-smallest}
 
@@ -174,3 +175,30 @@ planar-length L ends marks opened p =
     others : (q : Refusal) → Applies (planarSideRule L ∷ []) q → numberOf q ≢ numberOf BufferLength
     others q (here b) e = let eighteen : numberOf q ≡ 18 = ap numberOf (b .1) in omega arith
     others q (there a) e = empty-applies q a
+
+-- The stack's builder: 11, then 15, then 3, then 7
+
+pub stack-decides : (L R : ℕ) (readings ends marks syndrome : List ℕ) (r : Refusal)
+    → (stackRefusal L R readings ends marks syndrome ≡ some r) ↔ Decides (stackRules L R readings ends marks syndrome) r
+unfolding stackRefusal
+stack-decides L R readings ends marks syndrome = decides-exactly (stack-numbers L R readings ends marks syndrome)
+
+-- Theorem: number 3 is given only where side and rounds are in range, since 11 and 15 are tested before.
+pub stack-length : (L R : ℕ) (readings ends marks syndrome : List ℕ) → stackRefusal L R readings ends marks syndrome ≡ some BufferLength
+    → (leastSide ≤ L) × (L ≤ largestSide) × (1 ≤ R) × (stackVertices L R ≤ vertexLimit)
+unfolding stackRefusal
+stack-length L R readings ends marks syndrome p =
+    let fit = stackSized L R readings ends marks syndrome in
+    let kept = earlier-kept (layerRules L R) (lengthRule fit ∷ syndromeRule readings ∷ []) BufferLength p others in
+    let side = not-false-true (leb leastSide L && leb L largestSide) (λ out. kept (TorusSide L) (here (out, refl))) in
+    let rounds = not-false-true (leb 1 R && leb (stackVertices L R) vertexLimit) (λ out. kept RoundCount (there (here (out, refl)))) in (
+      leb-true leastSide L (and-left (leb leastSide L) (leb L largestSide) side),
+      leb-true L largestSide (and-right (leb leastSide L) (leb L largestSide) side),
+      leb-true 1 R (and-left (leb 1 R) (leb (stackVertices L R) vertexLimit) rounds),
+      leb-true (stackVertices L R) vertexLimit (and-right (leb 1 R) (leb (stackVertices L R) vertexLimit) rounds),
+    )
+  where
+    others : (q : Refusal) → Applies (layerRules L R) q → numberOf q ≢ numberOf BufferLength
+    others q (here b) e = let eleven : numberOf q ≡ 11 = ap numberOf (b .1) in omega arith
+    others q (there (here b)) e = let fifteen : numberOf q ≡ 15 = ap numberOf (b .1) in omega arith
+    others q (there (there a)) e = empty-applies q a

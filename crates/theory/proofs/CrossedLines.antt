@@ -1,13 +1,13 @@
 -- The two lines that marks speak of, taken one at a time: a set winds exactly where it is closed and crosses one of them an odd number
 -- of times. Assumes nothing.
-use Prim.Native.Nat.{ℕ, _+_, _*_, _<_}
+use Prim.Native.Nat.{ℕ, _+_, _*_, _/_, _%_, _<_}
 use mathlib.Core.Path.{_≡_, refl, sym, ap, ap₂, _∙_}
 use mathlib.Core.Bool.{Bool, true, false, not, _&&_, and-false, false≢true}
 use native.Mathlib.Omega.{arith}
 use borrow.Author.Tests.{eqb-true, not-true, not-false}
 use lib.Dec.{eqb}
 use Rattle.model.specs.Sums.{Set, bit, oddUpTo}
-use Rattle.model.specs.Board.{Board, edges}
+use Rattle.model.specs.Board.{Board, edges, mark}
 use Rattle.model.specs.Syndrome.{syndrome, HasSyndrome}
 use Rattle.model.specs.Winding.{closed, crossesA, crossesB, crossings, winds}
 use Rattle.model.proofs.Xor.{and-left, not-false-true}
@@ -22,6 +22,15 @@ pub data Line : Type 0 where
 abbrev pub crosses : Board → Line → Set
 crosses B lineA = crossesA B
 crosses B lineB = crossesB B
+
+-- edges with one mark cross the same lines, and an edge with mark 0 crosses none
+pub same-mark : (B C : Board) (x : Line) (e f : ℕ) → mark B e ≡ mark C f → crosses B x e ≡ crosses C x f
+same-mark B C lineA e f p = ap (λ a. eqb (a % 2) 1) p
+same-mark B C lineB e f p = ap (λ a. eqb (a / 2 % 2) 1) p
+
+pub no-mark : (B : Board) (x : Line) (e : ℕ) → mark B e ≡ 0 → crosses B x e ≡ false
+no-mark B lineA e p = ap (λ a. eqb (a % 2) 1) p
+no-mark B lineB e p = ap (λ a. eqb (a / 2 % 2) 1) p
 
 -- an odd number of the edges of D cross line x
 unfoldable pub crossesOddly : Board → Line → Set → Bool
@@ -79,6 +88,15 @@ unwound-unmarked B D c p = zero-unmarked B D (eqb-true (crossings B D) 0 (not-fa
 -- a closed set that crosses some line an odd number of times winds
 pub marked-winds : (B : Board) (D : Set) (x : Line) → Closed B D → crossesOddly B x D ≡ true → winds B D ≡ true
 marked-winds B D x c p = not-false-true (winds B D) (λ q. false≢true (sym (unwound-unmarked B D c q x) ∙ p))
+
+-- a set that is closed where another is, and crosses both lines as that one does, winds where that one does
+pub winds-alike : (B C : Board) (D E : Set) → (Closed B D → Closed C E) → ((x : Line) → crossesOddly B x D ≡ crossesOddly C x E)
+    → winds B D ≡ true → winds C E ≡ true
+winds-alike B C D E shut alike w =
+    not-false-true (winds C E)
+    (λ q.
+    let even = unwound-unmarked C E (shut (winds-closed B D w)) q in
+    false≢true (sym (unmarked-unwound B D (λ x. alike x ∙ even x)) ∙ w))
 
 -- only the edges below the edge count matter
 pub crossings-cong : (B : Board) (D E : Set) → ((e : ℕ) → e < edges B → D e ≡ E e) → crossings B D ≡ crossings B E

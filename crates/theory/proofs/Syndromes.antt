@@ -94,6 +94,11 @@ syndrome-cong B D E same v = ap (λ x. not (isOpen B v) && x) (odd-end-cong B D 
 pub has-syndrome-cong : (B : Board) (D E S : Set) → ((e : ℕ) → e < edges B → D e ≡ E e) → HasSyndrome B E S → HasSyndrome B D S
 has-syndrome-cong B D E S same has = record { at = λ v h. syndrome-cong B D E same v ∙ has .at v h }
 
+-- the empty set has no syndrome
+pub syndrome-empty : (B : Board) (v : ℕ) → syndrome B (λ e. false) v ≡ false
+unfolding syndrome
+syndrome-empty B v = ap (λ x. not (isOpen B v) && x) (odd-end-empty B v) ∙ and-false (not (isOpen B v))
+
 -- the syndrome of two sets together is the exclusive or of their syndromes
 pub syndrome-together : (B : Board) (D E : Set) (v : ℕ) → syndrome B (together D E) v ≡ syndrome B D v ⊕ syndrome B E v
 unfolding syndrome
