@@ -7,19 +7,25 @@ use mathlib.Core.List.{List, [], _∷_}
 use native.Mathlib.Omega.{arith}
 use lib.ListN.{length}
 use lib.Dec.{eqb, leb}
-use Rattle.model.specs.declared.refusal.Refusal.the-variants.{VertexCount, EndCount, BufferLength, EndRange, MarkRange, SyndromeByte, LossByte, HandedByte, TorusSide, TextLength, TextBuffer, OpenByte, LitOpen, PlanarSide}
+use Rattle.model.specs.declared.refusal.Refusal.the-variants.{VertexCount, EndCount, BufferLength, EndRange, MarkRange, SyndromeByte, LossByte, HandedByte, TorusSide, TextLength, TextBuffer, RoundCount, OpenByte, LitOpen, PlanarSide}
 use Rattle.model.specs.Sums.{ones}
 use Rattle.model.specs.Board.{Board, Sheet, edges, vertexLimit, edgeLimit}
 use Rattle.model.specs.Decoding.{smallestOdd}
-use Rattle.model.specs.Refusals.{Test, tested, refusalOf, sized, edgesOf, outside, above, litOpen, boardSized, countRules, edgeRules, boardRules, byteRules, plainRules, openRule, openRules, sheetRules, sideRule, planarSideRule, lengthRule, handedRule, decodeRefusal, verdictRefusal, distanceRefusal, torusRefusal, planarRefusal, oddPartTest, noneAt}
+use Rattle.model.specs.Refusals.{Test, tested, refusalOf, sized, edgesOf, outside, above, litOpen, boardSized, countRules, edgeRules, boardRules, byteRules, plainRules, openRule, openRules, sheetRules, sideRule, planarSideRule, lengthRule, handedRule, syndromeRule, decodeRefusal, verdictRefusal, distanceRefusal, torusRefusal, planarRefusal, stackSized, layerRules, stackRefusal, oddPartTest, noneAt}
 use Rattle.model.specs.Torus.{leastSide, largestSide}
 use Rattle.model.specs.Planar.{leastPlanar, largestPlanar, planarVertices, planarEdges}
+use Rattle.model.specs.Stack.{stackVertices}
 use Rattle.model.specs.Text.{textOf}
 use Rattle.model.specs.TextOutcomes.{Buffers, textLimit, textRule, readRefusal, writeRefusal}
 use Rattle.model.proofs.Places.{PlaceBelow, EachBelow, wider, unless-below, at-below, first-below, else-below, rules-below}
+use Rattle.model.proofs.RuleLists.{refusal-append}
 use Rattle.theory.proofs.SmallestOdd.{smallest-odd-exactly}
 use Rattle.board.proofs.Validity.{board-tests, counts-allow, plain-tests, board-allows, sheet-tests, plain-passes, plain-allows}
 use Rattle.board.proofs.Calls.{verdict-tests, handed-allowed, distance-tests, open-allowed}
+use Rattle.board.proofs.Failures.{each-passes}
+use Rattle.board.proofs.Passing.{unless-passes}
+use Rattle.stack.proofs.LayerTests.{passed-layers}
+use Rattle.stack.proofs.StackTests.{stack-tests, readings-long}
 use Rattle.text.proofs.ReadOutcome.{fit}
 use Rattle.text.proofs.WriteOutcome.{textRules, write-tests}
 
@@ -133,6 +139,31 @@ planar-side side ends marks opened h =
       unless-below (leb leastPlanar side && leb side largestPlanar) (PlanarSide side) (omega arith),
       (unless-below fits BufferLength (omega arith), tt),
     )
+
+-- of a stack the side too; a reading byte is one of few, once the lengths have passed
+readings-small : (readings : List ℕ) → length readings ≤ vertexLimit → PlaceBelow (2 ^ 56) (refusalOf (syndromeRule readings ∷ []))
+readings-small readings h =
+    rules-below (syndromeRule readings ∷ []) (
+      first-below (length readings) (above 1 readings) (λ v. SyndromeByte (record { 0 = v })) (λ v l. omega arith),
+      tt,
+    )
+
+pub stack-side : (side rounds : ℕ) (readings ends marks syndrome : List ℕ) → side < 2 ^ 32
+    → PlaceBelow (2 ^ 56) (stackRefusal side rounds readings ends marks syndrome)
+stack-side side rounds readings ends marks syndrome h =
+    let fits = stackSized side rounds readings ends marks syndrome in
+    rw (stack-tests side rounds readings ends marks syndrome, refusal-append (lengthRule fits ∷ []) (syndromeRule readings ∷ []))
+    (else-below _ _
+    (rules-below (layerRules side rounds) (
+      unless-below (leb leastSide side && leb side largestSide) (TorusSide side) (omega arith),
+      (unless-below (leb 1 rounds && leb (stackVertices side rounds) vertexLimit) RoundCount (omega arith), tt),
+    ))
+    (λ p. else-below _ _
+    (rules-below (lengthRule fits ∷ []) (unless-below fits BufferLength (omega arith), tt))
+    (λ q.
+    let fit = unless-passes fits BufferLength (each-passes (lengthRule fits ∷ []) q .0) in
+    let few = passed-layers side rounds p .vertex-limit in
+    readings-small readings (omega (arith, readings-long side rounds readings ends marks syndrome fit)))))
 
 pub read-small : (text : List ℕ) (old : Buffers) → Small (readRefusal text old)
 unfolding readRefusal

@@ -13,11 +13,12 @@ use Rattle.model.specs.declared.answers.Written.{Written}
 use Rattle.model.specs.Board.{Board, Sheet}
 use Rattle.model.specs.Outcomes.{decodeAnswer, Decodes, DecodesSoundly, verdictAnswer, Judges, JudgesSoundly}
 use Rattle.model.specs.Outcomes.{distanceAnswer, Measures, torusAnswer, Builds, planarAnswer, BuildsPlanar}
+use Rattle.model.specs.StackOutcomes.{stackAnswer, BuildsStack, StacksSoundly}
 use Rattle.model.specs.RoundsOutcomes.{roundsAnswer, DecodesInRounds, RoundsSoundly}
 use Rattle.model.specs.TextOutcomes.{Buffers, counts, readOutcome, Reads, writeAnswer, Writes}
 use Rattle.model.specs.Packing.{packedDecoded, packedRounds, packedVerdict, packedDistance, packedBuilt, packedReading, packedWritten}
 use Rattle.model.specs.Packing.{unpackedDecoded, unpackedRounds, unpackedVerdict, unpackedDistance, unpackedBuilt, unpackedReading, unpackedWritten}
-use Rattle.table.proofs.Returned.{decode-returned, rounds-returned, verdict-returned, distance-returned, torus-returned, planar-returned, read-returned, write-returned}
+use Rattle.table.proofs.Returned.{decode-returned, rounds-returned, verdict-returned, distance-returned, torus-returned, planar-returned, stack-returned, read-returned, write-returned}
 
 exported : {A : Type 0} (pack : A → ℕ) (unpack : ℕ → A) (P : A → Type 0) {a b : A} {r : ℕ} → unpack (pack b) ≡ b → a ≡ b → r ≡ pack a → P a
     → (r ≡ pack b) × P (unpack r)
@@ -61,6 +62,16 @@ pub planar-exported : {side : ℕ} {ends marks opened : List ℕ} {a : Built} {e
     → (r ≡ packedBuilt (planarAnswer side ends marks opened)) × BuildsPlanar side ends marks opened (unpackedBuilt r) e m o
 planar-exported {side} {ends} {marks} {opened} {a} {e} {m} {o} h p w =
     exported packedBuilt unpackedBuilt (λ b. BuildsPlanar side ends marks opened b e m o) (planar-returned side ends marks opened h) (w .result) p w
+
+pub stack-exported : {side rounds : ℕ} {readings ends marks syndrome : List ℕ} {a : Built} {e m s : List ℕ} {r : ℕ} → side < 2 ^ 32
+    → r ≡ packedBuilt a
+    → BuildsStack side rounds readings ends marks syndrome a e m s × StacksSoundly side rounds readings a e m s
+    → (r ≡ packedBuilt (stackAnswer side rounds readings ends marks syndrome))
+    × (BuildsStack side rounds readings ends marks syndrome (unpackedBuilt r) e m s × StacksSoundly side rounds readings (unpackedBuilt r) e m s)
+stack-exported {side} {rounds} {readings} {ends} {marks} {syndrome} {a} {e} {m} {s} h p w =
+    exported packedBuilt unpackedBuilt
+    (λ b. BuildsStack side rounds readings ends marks syndrome b e m s × StacksSoundly side rounds readings b e m s)
+    (stack-returned side rounds readings ends marks syndrome h) (w .0 .result) p w
 
 pub read-exported : {text : List ℕ} {old : Buffers} {a : Reading} {new : Buffers} {r : ℕ} → r ≡ packedReading a → Reads text old a new
     → (r ≡ packedReading (counts (readOutcome text old))) × Reads text old (unpackedReading r) new

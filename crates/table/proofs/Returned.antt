@@ -27,9 +27,11 @@ use Rattle.model.specs.Verdict.{differs, judgedAt, judged}
 use Rattle.model.specs.Distance.{fewest}
 use Rattle.model.specs.Torus.{leastSide, largestSide}
 use Rattle.model.specs.Planar.{leastPlanar, largestPlanar, planarVertices, planarEdges}
-use Rattle.model.specs.Refusals.{placeOf, Test, sized, sideRule, planarSideRule, lengthRule, oddPartTest, decodeRefusal, verdictRefusal, distanceRefusal, torusRefusal, planarRefusal}
+use Rattle.model.specs.Stack.{stackVertices}
+use Rattle.model.specs.Refusals.{placeOf, Test, sized, sideRule, planarSideRule, lengthRule, oddPartTest, decodeRefusal, verdictRefusal, distanceRefusal, torusRefusal, planarRefusal, stackRefusal}
 use Rattle.model.specs.Outcomes.{answer, keyOrNone, decodeAnswer, judgedOrNone, verdictAnswer, distanceOf, distanceAnswer, torusAnswer, planarAnswer}
 use Rattle.model.specs.RoundsOutcomes.{roundsOrNone, roundsAnswer}
+use Rattle.model.specs.StackOutcomes.{stackAnswer}
 use Rattle.model.specs.Text.{Read, complete, refused, textOf, readText}
 use Rattle.model.specs.TextOutcomes.{Buffers, textLimit, readRefusal, readOutcome, counts, writeRefusal, writeAnswer}
 use Rattle.model.specs.Packing.{packedDecoded, packedRounds, packedVerdict, packedDistance, packedBuilt, packedReading, packedWritten, unpackedDecoded, unpackedRounds, verdictWith, unpackedVerdict, distanceWith, unpackedDistance, unpackedBuilt, unpackedReading, unpackedWritten}
@@ -45,7 +47,8 @@ use Rattle.board.proofs.Calls.{decode-passes, verdict-passes, distance-passes}
 use Rattle.text.proofs.TextCalls.{read-within, write-passed}
 use Rattle.torus.proofs.Numbering.{square-limit}
 use Rattle.planar.proofs.Numbering.{vertices-limit}
-use Rattle.table.proofs.CallPlaces.{roomy, decode-small, verdict-small, odd-small, distance-small, torus-side, planar-side, read-small, write-small}
+use Rattle.stack.proofs.StackPasses.{stack-passes}
+use Rattle.table.proofs.CallPlaces.{roomy, decode-small, verdict-small, odd-small, distance-small, torus-side, planar-side, stack-side, read-small, write-small}
 
 -- An answer comes back where the refusals of its test and what follows where it passes do.
 back : {A : Type 0} (pack : A → ℕ) (unpack : ℕ → A) {refused : Refusal → A} {else : A} (t : Test)
@@ -160,7 +163,7 @@ distance-returned B shown =
     back packedDistance unpackedDistance (distanceRefusal B shown) distance-refusal (roomy (distance-small B shown))
     (λ p. distance-fewest B (distance-passes B shown p .board))
 
--- The torus: L² vertices. A side is lent as 32 bits, to both builders.
+-- The torus: L² vertices. A side is lent as 32 bits, to all builders.
 
 built-refusal : (n : Refusal) → placeOf n < 2 ^ 56 → unpackedBuilt (packedBuilt (built.Refused n)) ≡ built.Refused n
 unfolding unpackedBuilt
@@ -203,6 +206,18 @@ unfolding planarAnswer
 planar-returned side ends marks opened h =
     back packedBuilt unpackedBuilt (planarRefusal side ends marks opened) built-refusal (planar-side side ends marks opened h)
     (λ p. built-vertices (planarVertices side) (omega (arith, vertices-limit side (planar-passes side ends marks opened p))))
+
+-- The stack: R × L² vertices
+
+pub stack-returned : (side rounds : ℕ) (readings ends marks syndrome : List ℕ) → side < 2 ^ 32
+    → unpackedBuilt (packedBuilt (stackAnswer side rounds readings ends marks syndrome)) ≡ stackAnswer side rounds readings ends marks syndrome
+unfolding stackAnswer
+stack-returned side rounds readings ends marks syndrome h =
+    back packedBuilt unpackedBuilt (stackRefusal side rounds readings ends marks syndrome) built-refusal
+    (stack-side side rounds readings ends marks syndrome h)
+    (λ p.
+    let few = stack-passes side rounds readings ends marks syndrome p .within .vertex-limit in
+    built-vertices (stackVertices side rounds) (omega arith))
 
 -- Reading: both counts
 

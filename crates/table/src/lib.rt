@@ -1,6 +1,6 @@
 // The static library: the calls of the table under plain C names, each answering one packed number. Of each, `number` says which number,
 // and `outcome` that what a caller takes from it is the call's answer, with the final contents of every buffer; of decoding, by growths
-// and in rounds, and of the verdict, `sound` says what may be relied on, of the same answer.
+// and in rounds, of the verdict and of the stack, `sound` says what may be relied on, of the same answer.
 mod packing;
 
 use crate::packing::pack;
@@ -16,6 +16,7 @@ ghost use mathlib.Core.Path.{_≡_};
 ghost use Rattle.model.specs.Lent.{before, after, boardLent, sheetLent};
 ghost use Rattle.model.specs.Outcomes.{decodeAnswer, Decodes, DecodesSoundly, verdictAnswer, Judges, JudgesSoundly};
 ghost use Rattle.model.specs.Outcomes.{distanceAnswer, Measures, torusAnswer, Builds, planarAnswer, BuildsPlanar};
+ghost use Rattle.model.specs.StackOutcomes.{stackAnswer, BuildsStack, StacksSoundly};
 ghost use Rattle.model.specs.RoundsOutcomes.{roundsAnswer, DecodesInRounds, RoundsSoundly};
 ghost use Rattle.model.specs.TextOutcomes.{buffersOf, counts, readOutcome, Reads, writeAnswer, Writes};
 ghost use Rattle.model.specs.Packing.{packedDecoded, packedRounds, packedVerdict, packedDistance, packedBuilt, packedReading, packedWritten};
@@ -167,6 +168,39 @@ pub extern "C" fn surface_planar(
         (unpackedBuilt r) (after ends) (after marks) (after opened) ⌝ }
 {
     match planar::planar(side as usize, ends, marks, opened) {
+        Built::Vertices(n) => pack(n, 0),
+        Built::Refused(n) => pack_refusal(n),
+    }
+}
+
+// The stack of a side and a number of rounds, with its ends, marks and syndrome filled from the readings: the vertex count.
+#[no_mangle]
+pub extern "C" fn surface_stack(
+    side: u32,
+    rounds: u32,
+    readings: &[u8],
+    ends: &mut [u16],
+    marks: &mut [u8],
+    syndrome: &mut [u8],
+) -> u64
+    ensures number { λ r.
+        ⌜ r ≡ packedBuilt
+        (stackAnswer side rounds (before readings) (before ends) (before marks) (before syndrome)) ⌝ }
+    ensures outcome { λ r.
+        ⌜ BuildsStack side rounds (before readings) (before ends) (before marks) (before syndrome)
+        (unpackedBuilt r) (after ends) (after marks) (after syndrome) ⌝ }
+    ensures sound { λ r.
+        ⌜ StacksSoundly side rounds (before readings)
+        (unpackedBuilt r) (after ends) (after marks) (after syndrome) ⌝ }
+{
+    match stack::stack(
+        side as usize,
+        rounds as usize,
+        readings,
+        ends,
+        marks,
+        syndrome,
+    ) {
         Built::Vertices(n) => pack(n, 0),
         Built::Refused(n) => pack_refusal(n),
     }
