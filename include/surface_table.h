@@ -39,7 +39,7 @@ extern "C" {
 
 /* Raised by one whenever a call changes: its parameters, its tests or its answers, or a call more or
  * less. Programs and library must be built from one version; nothing else keeps them together. */
-#define SURFACE_VERSION 4
+#define SURFACE_VERSION 5
 
 /* The largest number of vertices and of edges of a board, and of bytes of a text. */
 #define SURFACE_VERTICES 1024
@@ -66,7 +66,8 @@ static inline uint32_t surface_second(uint64_t returned) { return (uint32_t)(ret
 /* The refusal's numbers, each with its place. A call that refuses has written nothing. Of all the
  * rules that are broken, the one that the call tests first is returned, at its smallest place. Calls
  * test in the order of the numbers, but for these: 16 and 17 come before 10, 12 and 14, surface_torus
- * tests 11 before 3, and surface_planar 18 before 3. Numbers 5 and 15 are not in use. */
+ * tests 11 before 3, surface_planar 18 before 3, and surface_stack 11 and 15 before 3 and 7.
+ * Number 5 is not in use. */
 enum surface_refusal_number {
     SURFACE_NOT_REFUSED = 0,
     SURFACE_REFUSED_VERTEX_COUNT = 1,    /* place 0 */
@@ -74,7 +75,7 @@ enum surface_refusal_number {
     SURFACE_REFUSED_BUFFER_LENGTH = 3,   /* place 0 */
     SURFACE_REFUSED_END_RANGE = 4,       /* the edge */
     SURFACE_REFUSED_MARK_RANGE = 6,      /* the edge */
-    SURFACE_REFUSED_SYNDROME_BYTE = 7,   /* the vertex */
+    SURFACE_REFUSED_SYNDROME_BYTE = 7,   /* the vertex; in surface_stack that of a reading byte */
     SURFACE_REFUSED_LOSS_BYTE = 8,       /* the edge */
     SURFACE_REFUSED_HANDED_BYTE = 9,     /* the edge */
     SURFACE_REFUSED_NO_CORRECTION = 10,  /* the vertex; surface_decode, surface_decode_rounds and
@@ -84,6 +85,7 @@ enum surface_refusal_number {
     SURFACE_REFUSED_TEXT_LENGTH = 12,    /* place 0 */
     SURFACE_REFUSED_MALFORMED_LINE = 13, /* the line, from 1; the first such */
     SURFACE_REFUSED_TEXT_BUFFER = 14,    /* place 0 */
+    SURFACE_REFUSED_ROUND_COUNT = 15,    /* place 0 */
     SURFACE_REFUSED_OPEN_BYTE = 16,      /* the vertex */
     SURFACE_REFUSED_LIT_OPEN = 17,       /* the vertex */
     SURFACE_REFUSED_PLANAR_SIDE = 18     /* the side */
@@ -108,6 +110,7 @@ static inline const char *surface_refusal_text(unsigned number)
     case SURFACE_REFUSED_TEXT_LENGTH: return "the text has more than 65,536 bytes";
     case SURFACE_REFUSED_MALFORMED_LINE: return "the line is malformed";
     case SURFACE_REFUSED_TEXT_BUFFER: return "the buffer is shorter than the text";
+    case SURFACE_REFUSED_ROUND_COUNT: return "the round count is 0 or makes more than 1,024 vertices";
     case SURFACE_REFUSED_OPEN_BYTE: return "the vertex has an open byte above 1";
     case SURFACE_REFUSED_LIT_OPEN: return "the vertex is open and lit";
     case SURFACE_REFUSED_PLANAR_SIDE: return "the side of a planar board is outside 2 to 31";
@@ -124,6 +127,7 @@ static inline const char *surface_refusal_text(unsigned number)
 #define SURFACE_STACK_DISTANCE 69632
 #define SURFACE_STACK_TORUS 8192
 #define SURFACE_STACK_PLANAR 8192
+#define SURFACE_STACK_STACK 8192
 #define SURFACE_STACK_READ 32768
 #define SURFACE_STACK_WRITE 98304
 
@@ -195,6 +199,29 @@ uint64_t surface_planar(uint32_t side,
                         uint16_t *ends, size_t ends_count,
                         uint8_t *marks, size_t marks_count,
                         uint8_t *open, size_t open_count);
+
+/* Fills the ends, marks and syndrome of the stack of a torus of a side, 1 to 32, that is read in so
+ * many rounds: one board with a layer for each round, of at most 1,024 vertices in all. `readings`
+ * has a byte for each vertex in each round, 0 or 1, round after round: exactly rounds side² of them,
+ * and there are as many syndrome bytes. The edges are (3 rounds - 1) side², with exactly two ends and
+ * a mark for each.
+ *
+ * Rounds, and so layers, are counted from 0. Layer k is the torus, with its vertex v as k side² + v
+ * and its edge e as 2 k side² + e. After the edges of all layers, edge 2 rounds side² + k side² + v
+ * runs from v in layer k to v in layer k + 1, and has mark 0. The syndrome of layer 0 is its reading;
+ * that of a later layer is where its reading differs from the one before. No vertex is open, so a
+ * call that takes the stack is lent a zero for each.
+ *
+ * A flip is the edge of the torus in its round's layer, and a wrong reading is the edge from its
+ * layer to the next. Where each reading is the torus's syndrome of all flips so far, changed at its
+ * wrong readings, and the last reading has no wrong one, the flips and the wrong readings together
+ * have the syndrome: what surface_decode promises of every set E that has it, it promises of them.
+ * First value: the vertex count. */
+uint64_t surface_stack(uint32_t side, uint32_t rounds,
+                       const uint8_t *readings, size_t readings_count,
+                       uint16_t *ends, size_t ends_count,
+                       uint8_t *marks, size_t marks_count,
+                       uint8_t *syndrome, size_t syndrome_count);
 
 /* Reads a text into buffers of exactly SURFACE_ENDS, SURFACE_MARKS, SURFACE_OPEN, SURFACE_SYNDROME and
  * SURFACE_LOSS elements, and leaves entries past the board's counts as they were.

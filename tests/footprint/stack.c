@@ -23,9 +23,10 @@ static ucontext_t outside, inside;
 
 /* What the calls are lent. */
 static size_t vertices, edges, text_count;
-static uint32_t side;
+static uint32_t side, rounds;
 static uint16_t ends[SURFACE_ENDS];
 static uint8_t marks[SURFACE_MARKS], open_bytes[SURFACE_OPEN], syndrome[SURFACE_SYNDROME], loss[SURFACE_LOSS], handed[SURFACE_EDGES];
+static uint8_t readings[SURFACE_VERTICES];
 static uint8_t support[SURFACE_EDGES], correction[SURFACE_EDGES], shown[SURFACE_EDGES], text[SURFACE_TEXT];
 
 static uint64_t returned;
@@ -53,6 +54,11 @@ static void torus(void) { returned = surface_torus(side, ends, 2 * edges, marks,
 
 static void planar(void) { returned = surface_planar(side, ends, 2 * edges, marks, edges, open_bytes, vertices); }
 
+static void torus_stack(void)
+{
+    returned = surface_stack(side, rounds, readings, vertices, ends, 2 * edges, marks, edges, syndrome, vertices);
+}
+
 static void write_text(void)
 {
     returned = surface_write(vertices, ends, 2 * edges, marks, edges, open_bytes, vertices, syndrome, vertices, loss, edges, text, SURFACE_TEXT);
@@ -73,7 +79,7 @@ struct call {
     bool answered, refused;
 };
 
-enum { DECODE, DECODE_ROUNDS, VERDICT, DISTANCE, TORUS, PLANAR, READ, WRITE, CALLS };
+enum { DECODE, DECODE_ROUNDS, VERDICT, DISTANCE, TORUS, PLANAR, TORUS_STACK, READ, WRITE, CALLS };
 
 static struct call calls[CALLS] = {
     {"surface_decode", decode, SURFACE_STACK_DECODE, 0, false, false},
@@ -82,6 +88,7 @@ static struct call calls[CALLS] = {
     {"surface_distance", distance, SURFACE_STACK_DISTANCE, 0, false, false},
     {"surface_torus", torus, SURFACE_STACK_TORUS, 0, false, false},
     {"surface_planar", planar, SURFACE_STACK_PLANAR, 0, false, false},
+    {"surface_stack", torus_stack, SURFACE_STACK_STACK, 0, false, false},
     {"surface_read", read_text, SURFACE_STACK_READ, 0, false, false},
     {"surface_write", write_text, SURFACE_STACK_WRITE, 0, false, false},
 };
@@ -182,6 +189,40 @@ static void largest_planar(void)
     measure(PLANAR);
 }
 
+/* The stack of a side and so many rounds, every third reading 1, and the calls that are lent its board. It has a correction where the last
+ * layer has an even number of these, as those of sides 8 and 32 below. */
+static void measure_stack(uint32_t stacked_side, uint32_t stacked_rounds)
+{
+    side = stacked_side;
+    rounds = stacked_rounds;
+    vertices = (size_t)rounds * side * side;
+    edges = 3 * vertices - (size_t)side * side;
+    for (size_t v = 0; v < vertices; v++)
+        readings[v] = v % 3 == 0;
+    measure(TORUS_STACK);
+    memset(open_bytes, 0, sizeof open_bytes);
+    memset(loss, 0, sizeof loss);
+    memset(handed, 0, sizeof handed);
+    measure_board();
+}
+
+/* Stacks of as many vertices as there may be, with one layer, some, and as many as there may be; then a reading byte above 1, a buffer too
+ * long, a round too many, and a side too large. */
+static void largest_stacks(void)
+{
+    measure_stack(32, 1);
+    measure_stack(1, SURFACE_VERTICES);
+    measure_stack(8, 16);
+    readings[vertices - 1] = 2;
+    measure(TORUS_STACK);
+    edges++;
+    measure(TORUS_STACK);
+    rounds++;
+    measure(TORUS_STACK);
+    side = 33;
+    measure(TORUS_STACK);
+}
+
 /* As many vertices and edges as there may be: four rings through all vertices, with steps 1, 3, 5 and 7, and every mark. */
 static void most_edges(void)
 {
@@ -223,7 +264,8 @@ static void long_path(void)
     measure_board();
 }
 
-/* The torus of side 1, whose edges are loop edges; one vertex without an edge, and none; the planar board of side 2. */
+/* The torus of side 1, whose edges are loop edges; one vertex without an edge, and none; the planar board of side 2; the stack of side 1
+ * that is read once. */
 static void smallest(void)
 {
     side = 1;
@@ -242,12 +284,14 @@ static void smallest(void)
     edges = 5;
     measure(PLANAR);
     measure_board();
+    measure_stack(1, 1);
 }
 
 int main(void)
 {
     largest_torus();
     largest_planar();
+    largest_stacks();
     most_edges();
     long_path();
     smallest();

@@ -3,6 +3,7 @@
 use crate::board::{Board, Sheet};
 use crate::planar::planar;
 use crate::random::Random;
+use crate::stack::History;
 use crate::text;
 use crate::torus::torus;
 
@@ -265,6 +266,23 @@ pub fn open_board(random: &mut Random) -> Board {
             let board = Kind::ALL[kind - 2].board(random);
             opened(random, board)
         }
+    }
+}
+
+/// A history of a torus of a side, read in so many rounds, in which each edge flips before each
+/// reading, and each reading but the last is wrong, with so many chances in a thousand.
+pub fn history(
+    random: &mut Random,
+    side: usize,
+    rounds: usize,
+    flips: usize,
+    wrong: usize,
+) -> History {
+    let vertices = side * side;
+    History {
+        side,
+        flips: (0..rounds).map(|_| random.set(2 * vertices, flips)).collect(),
+        wrong: (1..rounds).map(|_| random.set(vertices, wrong)).collect(),
     }
 }
 

@@ -1,9 +1,10 @@
 //! A plain decoder, written from document 01's steps and sharing nothing with the proved one.
 //!
 //! Nothing here is clever or fast: each section of document 01 is one module, in its words, and so are
-//! growing in rounds ([`rounds`]) and open sides ([`open_sides`], [`planar`]), which document 02 adds.
-//! Beside them stand a second way to find the number of a malformed line ([`line_numbers`]), a seeded
-//! generator of random numbers, and the boards that decoders are tried on.
+//! growing in rounds ([`rounds`]), open sides ([`open_sides`], [`planar`]) and repeated readings
+//! ([`stack`]), which document 02 adds. Beside them stand a second way to find the number of a
+//! malformed line ([`line_numbers`]), a seeded generator of random numbers, and the boards that
+//! decoders are tried on.
 //!
 //! A set of vertices or edges is a slice with a byte for each, 0 or 1, as the calls are lent it.
 
@@ -22,6 +23,7 @@ pub mod program;
 pub mod random;
 pub mod refusal;
 pub mod rounds;
+pub mod stack;
 pub mod text;
 pub mod torus;
 pub mod verdict;

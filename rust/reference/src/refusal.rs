@@ -1,6 +1,7 @@
 //! Document 01, "Numbers and places": the tests of each call, in the order of their numbers. By
 //! document 02, K3, equal ends break no rule, so that number 5 never occurs; by K5 the open bytes are
-//! tested after 8 and 9 and before 10.
+//! tested after 8 and 9 and before 10; by K1 a stack's rounds are tested after its side and before any
+//! length.
 
 use crate::board::{Board, EDGE_LIMIT, Sheet, VERTEX_LIMIT};
 
@@ -124,6 +125,32 @@ pub fn planar(side: u32, ends: usize, marks: usize, open: usize) -> Test {
     let down_inner_columns = (side - 1) * (side - 1);
     let edges = along_rows + down_inner_columns;
     buffer_lengths(&[(ends, 2 * edges), (marks, edges), (open, side * (side + 1))])
+}
+
+/// The tests of the builder of stacks, which is lent these readings, and buffers of these lengths to
+/// fill. The rounds are tested once the side is in range, the lengths once both are, and the readings
+/// last.
+pub fn stack(
+    side: u32,
+    rounds: u32,
+    readings: &[u8],
+    (ends, marks, syndrome): (usize, usize, usize),
+) -> Test {
+    unless((1..=32).contains(&side), 11, side as usize)?;
+    let layer = u64::from(side * side);
+    let vertices = u64::from(rounds) * layer;
+    unless(rounds > 0 && vertices <= VERTEX_LIMIT as u64, 15, 0)?;
+    let (layer, vertices) = (layer as usize, vertices as usize);
+    let inside_layers = 2 * vertices;
+    let between_layers = vertices - layer;
+    let edges = inside_layers + between_layers;
+    buffer_lengths(&[
+        (readings.len(), vertices),
+        (ends, 2 * edges),
+        (marks, edges),
+        (syndrome, vertices),
+    ])?;
+    bytes(7, readings)
 }
 
 /// The tests of the reader on the buffers that it is lent to fill.

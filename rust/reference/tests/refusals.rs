@@ -6,6 +6,7 @@ use reference::distance::distance_into;
 use reference::generators::{path, ring};
 use reference::planar::planar_into;
 use reference::refusal::{Refusal, reader};
+use reference::stack::stack_into;
 use reference::text::write_into;
 use reference::torus::torus_into;
 use reference::verdict::{Verdict, verdict};
@@ -105,6 +106,44 @@ fn planar_sides() {
     for side in [0, 1, 32, u32::MAX] {
         assert_eq!(refused(planar_into(side, 0, 0, 0)), (18, side.into()));
     }
+}
+
+/// Side 1 has 5 edges in two rounds, side 5 has 200 in three, and side 32 its 2,048 in one. Tests are in
+/// the order 11, 15, 3, 7.
+#[test]
+fn stack_sides_and_rounds() {
+    for (side, rounds, vertices, edges) in [
+        (1, 2, 2, 5),
+        (1, 1024, 1024, 3071),
+        (5, 3, 75, 200),
+        (5, 40, 1000, 2975),
+        (32, 1, 1024, 2048),
+    ] {
+        let right = (2 * edges, edges, vertices);
+        assert!(stack_into(side, rounds, &vec![1; vertices], right).is_ok());
+        let broken = vec![2; vertices];
+        assert_eq!(refused(stack_into(side, rounds, &broken, right)), (7, 0));
+        for wrong in [
+            (2 * edges - 1, edges, vertices),
+            (2 * edges, edges + 1, vertices),
+            (2 * edges, edges, vertices - 1),
+        ] {
+            assert_eq!(refused(stack_into(side, rounds, &broken, wrong)), (3, 0));
+        }
+        assert_eq!(refused(stack_into(side, rounds, &broken[1..], right)), (3, 0));
+        assert_eq!(refused(stack_into(side, 0, &broken, right)), (15, 0));
+        assert_eq!(refused(stack_into(33, 0, &broken, right)), (11, 33));
+    }
+    for (side, rounds) in [(1, 1025), (5, 41), (32, 2), (32, 1 << 22), (16, 1 << 24), (1, u32::MAX)]
+    {
+        assert_eq!(refused(stack_into(side, rounds, &[], (0, 0, 0))), (15, 0));
+    }
+    for side in [0, 33, u32::MAX] {
+        assert_eq!(refused(stack_into(side, 1, &[], (0, 0, 0))), (11, side.into()));
+    }
+    let mut readings = vec![0; 75];
+    (readings[74], readings[26]) = (2, 255);
+    assert_eq!(refused(stack_into(5, 3, &readings, (400, 200, 75))), (7, 26));
 }
 
 /// 16 comes after 8 and 9, 17 right after it, and 10 or the writer's own numbers last. The distance is

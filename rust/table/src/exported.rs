@@ -105,6 +105,19 @@ unsafe extern "C" {
         open_count: usize,
     ) -> u64;
 
+    pub fn surface_stack(
+        side: u32,
+        rounds: u32,
+        readings: *const u8,
+        readings_count: usize,
+        ends: *mut u16,
+        ends_count: usize,
+        marks: *mut u8,
+        marks_count: usize,
+        syndrome: *mut u8,
+        syndrome_count: usize,
+    ) -> u64;
+
     pub fn surface_read(
         text: *const u8,
         text_count: usize,

@@ -43,9 +43,9 @@ mod tests {
     }
 
     #[test]
-    #[should_panic(expected = "returned 0xf, which this call never answers")]
+    #[should_panic(expected = "returned 0x5, which this call never answers")]
     fn unknown_number() {
-        let _ = unpack(15, &[15]);
+        let _ = unpack(5, &[5]);
     }
 
     #[test]

@@ -8,10 +8,10 @@ use crate::{EDGES, TEXT, VERTICES};
 /// The rule that is broken, with the place where it is broken.
 ///
 /// Of all the rules that a call's buffers break, the one that the call tests first is given, at its
-/// smallest place. That is the one with the smallest number, but for three: 16 and 17 are tested
-/// before 10, 12 and 14, the torus builder tests 11 before 3, and the planar builder 18 before 3.
-/// Numbers 5 and 15 are not in use. A call that refuses has written nothing. What is displayed is a
-/// sentence with the place.
+/// smallest place. That is the one with the smallest number, but for these: 16 and 17 are tested
+/// before 10, 12 and 14, the torus builder tests 11 before 3, the planar builder 18 before 3, and the
+/// builder of stacks 11 and 15 before 3 and 7. Number 5 is not in use. A call that refuses has written
+/// nothing. What is displayed is a sentence with the place.
 ///
 /// # Examples
 ///
@@ -37,7 +37,7 @@ pub enum Refusal {
     EndRange(usize),
     /// Number 6: this edge has a mark above 3.
     MarkRange(usize),
-    /// Number 7: this vertex has a syndrome byte above 1.
+    /// Number 7: this vertex has a syndrome byte above 1, or, in a stack, a reading byte above 1.
     SyndromeByte(usize),
     /// Number 8: this edge has a loss byte above 1.
     LossByte(usize),
@@ -55,6 +55,8 @@ pub enum Refusal {
     MalformedLine(usize),
     /// Number 14: the buffer to be written is shorter than the text.
     TextBuffer,
+    /// Number 15: the rounds of a stack are 0, or its vertices above [`VERTICES`](crate::VERTICES).
+    RoundCount,
     /// Number 16: this vertex has an open byte above 1.
     OpenByte(usize),
     /// Number 17: this vertex is open and in the syndrome.
@@ -81,6 +83,7 @@ impl Refusal {
             Refusal::TextLength => 12,
             Refusal::MalformedLine(_) => 13,
             Refusal::TextBuffer => 14,
+            Refusal::RoundCount => 15,
             Refusal::OpenByte(_) => 16,
             Refusal::LitOpen(_) => 17,
             Refusal::PlanarSide(_) => 18,
@@ -95,7 +98,8 @@ impl Refusal {
             | Refusal::EndCount
             | Refusal::BufferLength
             | Refusal::TextLength
-            | Refusal::TextBuffer => 0,
+            | Refusal::TextBuffer
+            | Refusal::RoundCount => 0,
             Refusal::EndRange(place)
             | Refusal::MarkRange(place)
             | Refusal::SyndromeByte(place)
@@ -129,6 +133,7 @@ impl Refusal {
             12 => Refusal::TextLength,
             13 if (1..=TEXT + 1).contains(&at) => Refusal::MalformedLine(at),
             14 => Refusal::TextBuffer,
+            15 => Refusal::RoundCount,
             16 => Refusal::OpenByte(vertex?),
             17 => Refusal::LitOpen(vertex?),
             18 => Refusal::PlanarSide(u32::try_from(place).ok()?),
@@ -160,6 +165,9 @@ impl fmt::Display for Refusal {
             Refusal::TextLength => write!(to, "the text has more than 65,536 bytes"),
             Refusal::MalformedLine(line) => write!(to, "line {line} is malformed"),
             Refusal::TextBuffer => write!(to, "the buffer is shorter than the text"),
+            Refusal::RoundCount => {
+                write!(to, "the round count is 0 or makes more than 1,024 vertices")
+            }
             Refusal::OpenByte(vertex) => write!(to, "vertex {vertex} has an open byte above 1"),
             Refusal::LitOpen(vertex) => write!(to, "vertex {vertex} is open and lit"),
             Refusal::PlanarSide(side) => {
@@ -176,7 +184,7 @@ mod tests {
     use super::Refusal;
 
     /// Each number with its smallest and its largest place.
-    const PLACES: [(u8, u64, u64); 16] = [
+    const PLACES: [(u8, u64, u64); 17] = [
         (1, 0, 0),
         (2, 0, 0),
         (3, 0, 0),
@@ -190,6 +198,7 @@ mod tests {
         (12, 0, 0),
         (13, 1, 65_537),
         (14, 0, 0),
+        (15, 0, 0),
         (16, 0, 1023),
         (17, 0, 1023),
         (18, 0, u32::MAX as u64),
@@ -212,7 +221,7 @@ mod tests {
 
     #[test]
     fn other_numbers_are_no_refusal() {
-        for number in (19..=u8::MAX).chain([0, 5, 15]) {
+        for number in (19..=u8::MAX).chain([0, 5]) {
             for place in [0, 1, 4095] {
                 assert_eq!(Refusal::new(number, place), None, "{number}");
             }

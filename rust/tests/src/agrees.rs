@@ -10,6 +10,7 @@ use reference::line_numbers::first_malformed_line;
 use reference::planar::planar_into;
 use reference::refusal;
 use reference::rounds::decode_rounds_into;
+use reference::stack::stack_into;
 use reference::text::{self, write_into};
 use reference::torus::torus_into;
 use reference::verdict::{self as plain_verdict, Verdict as PlainVerdict};
@@ -259,6 +260,62 @@ pub fn planar_with(side: u32, ends: usize, marks: usize, open: usize) -> Result<
         }
         (answer, plain) => panic!("{answer:?}, not {plain:?}: side {side}"),
     }
+}
+
+/// The stack of these readings with buffers of these lengths to fill, for ends, marks and syndrome: a
+/// sheet on which nothing is lost.
+pub fn stack_with(
+    side: u32,
+    rounds: u32,
+    readings: &[u8],
+    lengths: (usize, usize, usize),
+) -> Result<Sheet, Refusal> {
+    let (ends, marks, syndrome) = lengths;
+    let before = (end_noise(ends), noise(marks), noise(syndrome));
+    let mut read = Guarded::new(readings, BYTE_GUARD);
+    let mut ends_filled = Guarded::new(&before.0, END_GUARD);
+    let mut marks_filled = Guarded::new(&before.1, BYTE_GUARD);
+    let mut syndrome_filled = Guarded::new(&before.2, BYTE_GUARD);
+    let answer = table::stack(
+        side,
+        rounds,
+        read.lent(),
+        ends_filled.lent(),
+        marks_filled.lent(),
+        syndrome_filled.lent(),
+    );
+    read.returned_unchanged(readings);
+    let after = (ends_filled.returned(), marks_filled.returned(), syndrome_filled.returned());
+    match (answer, stack_into(side, rounds, readings, lengths)) {
+        (Ok(vertices), Ok(sheet)) => {
+            assert_eq!(vertices, sheet.board.vertices, "side {side}, {rounds} rounds");
+            let Board { ends, marks, .. } = sheet.board.clone();
+            let filled = (ends, marks, sheet.syndrome.clone());
+            assert!(after == filled, "side {side}, {rounds} rounds, {readings:?}");
+            Ok(sheet)
+        }
+        (Err(refusal), Err(plain)) => {
+            let case = format!("side {side}, {rounds} rounds, {lengths:?}");
+            assert!(is_refusal(refusal, plain), "{refusal:?}, not {plain:?}: {case}");
+            assert!(after == before, "a refusal wrote: {case}");
+            Err(refusal)
+        }
+        (answer, plain) => panic!("{answer:?}, not {plain:?}: side {side}, {rounds} rounds"),
+    }
+}
+
+/// The stack of these readings with buffers of the right lengths to fill; its side and its rounds are
+/// in range.
+pub fn stack(side: u32, rounds: u32, readings: &[u8]) -> Result<Sheet, Refusal> {
+    stack_with(side, rounds, readings, stack_lengths(side, rounds))
+}
+
+/// The lengths of the buffers that the builder of stacks fills: ends, marks, syndrome.
+pub fn stack_lengths(side: u32, rounds: u32) -> (usize, usize, usize) {
+    let layer = (side * side) as usize;
+    let vertices = rounds as usize * layer;
+    let edges = 3 * vertices - layer;
+    (2 * edges, edges, vertices)
 }
 
 /// Lengths of the buffers that the reader fills.

@@ -7,9 +7,8 @@ const HEADER: &str = include_str!("../../../include/surface_table.h");
 const RULES: &str = include_str!("../../../docs/RULES.md");
 const SOURCE: &str = include_str!("../../../crates/model/src/refusal.rt");
 
-/// Every refusal, in the order of the numbers, at place 7 where it has a place. None has number 5, and
-/// none 15.
-const REFUSALS: [Refusal; 16] = [
+/// Every refusal, in the order of the numbers, at place 7 where it has a place. None has number 5.
+const REFUSALS: [Refusal; 17] = [
     Refusal::VertexCount,
     Refusal::EndCount,
     Refusal::BufferLength,
@@ -23,13 +22,14 @@ const REFUSALS: [Refusal; 16] = [
     Refusal::TextLength,
     Refusal::MalformedLine(7),
     Refusal::TextBuffer,
+    Refusal::RoundCount,
     Refusal::OpenByte(7),
     Refusal::LitOpen(7),
     Refusal::PlanarSide(7),
 ];
 
-/// The numbers that are not in use.
-const UNUSED: [&str; 2] = ["5", "15"];
+/// The number that is not in use.
+const UNUSED: &str = "5";
 
 /// What a place can be.
 const KINDS: [&str; 4] = ["vertex", "edge", "side", "line"];
@@ -70,9 +70,9 @@ fn place_of(refusal: Refusal) -> &'static str {
 }
 
 #[test]
-fn numbers_but_5_and_15() {
+fn numbers_but_5() {
     let numbers: Vec<u8> = REFUSALS.iter().map(|refusal| refusal.number()).collect();
-    assert_eq!(numbers, [1, 2, 3, 4, 6, 7, 8, 9, 10, 11, 12, 13, 14, 16, 17, 18]);
+    assert_eq!(numbers, [1, 2, 3, 4, 6, 7, 8, 9, 10, 11, 12, 13, 14, 15, 16, 17, 18]);
 }
 
 #[test]
@@ -111,35 +111,33 @@ fn numbers_and_sentences_of_the_header() {
     assert_eq!(cases.count(), 1 + REFUSALS.len(), "the header has a case that no refusal has");
 }
 
-/// Neither the header nor the page of rules gives number 5 or 15 a name, a sentence or a row; both say
-/// that they are not in use.
+/// Neither the header nor the page of rules gives number 5 a name, a sentence or a row; both say that it
+/// is not in use.
 #[test]
-fn numbers_that_are_not_in_use() {
+fn number_that_is_not_in_use() {
     let (_, listed) = HEADER.split_once("enum surface_refusal_number {").expect("the numbers");
     let (listed, _) = listed.split_once("};").expect("the end of the numbers");
     assert!(listed.contains(" = 4,") && !HEADER.contains("EQUAL_ENDS"), "the header knows 5");
-    for number in UNUSED {
-        let name = format!(" = {number}");
-        assert!(!listed.contains(&format!("{name},")), "the header lists {number}");
-        assert!(!listed.contains(&format!("{name} ")), "the header ends with {number}");
-        assert!(!HEADER.contains(&format!("case {number}:")), "the header knows {number}");
-        let row = format!("| {number} |");
-        assert!(!RULES.lines().any(|line| line.starts_with(&row)), "docs/RULES.md has {row}");
-    }
+    assert!(!listed.contains(&format!(" = {UNUSED},")), "the header lists {UNUSED}");
+    assert!(!listed.contains(&format!(" = {UNUSED} ")), "the header ends with {UNUSED}");
+    assert!(!HEADER.contains(&format!("case {UNUSED}:")), "the header knows {UNUSED}");
+    let row = format!("| {UNUSED} |");
+    assert!(!RULES.lines().any(|line| line.starts_with(&row)), "docs/RULES.md has {row}");
     for page in [HEADER, RULES] {
-        assert!(page.contains("Numbers 5 and 15 are not in use."));
+        assert!(page.contains(&format!("Number {UNUSED} is not in use.")));
     }
 }
 
 /// The tests of each call, in order, as the page of rules must list them: 16 and 17 come after 8 and 9
-/// and before 10, 12 and 14, and a builder's side before the lengths.
-const TESTS: [(&str, &str); 8] = [
+/// and before 10, 12 and 14, and a builder's side and rounds before the lengths.
+const TESTS: [(&str, &str); 9] = [
     ("decode", "1 2 3 4 6 7 8 16 17 10"),
     ("decode_rounds", "1 2 3 4 6 7 8 16 17 10"),
     ("verdict", "1 2 3 4 6 7 8 9 16 17 10"),
     ("distance", "1 2 3 4 6 16"),
     ("torus", "11 3"),
     ("planar", "18 3"),
+    ("stack", "11 15 3 7"),
     ("read", "3 12 13"),
     ("write", "1 2 3 4 6 7 8 16 17 12 14"),
 ];
@@ -150,8 +148,7 @@ fn tests_of_each_call() {
         let row = RULES.lines().find(|line| line.starts_with(&format!("| {call} |")));
         let listed = row.and_then(|row| row.split('|').nth(4)).expect("the tests of a call");
         assert_eq!(listed.trim(), numbers, "{call}");
-        let none_unused = UNUSED.iter().all(|unused| numbers.split(' ').all(|n| n != *unused));
-        assert!(none_unused, "{call}: {numbers}");
+        assert!(numbers.split(' ').all(|number| number != UNUSED), "{call}: {numbers}");
     }
 }
 

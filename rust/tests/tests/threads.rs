@@ -83,5 +83,14 @@ fn all_calls_at_once() {
                 agrees::planar_with(side, 2 * edges, edges, vertices).expect("a side in range");
             }
         });
+        scope.spawn(|| {
+            for round in 0..sheets.len() as u32 {
+                let side = 1 + round % 32;
+                let rounds = 1 + round % (1024 / (side * side));
+                let readings: Vec<u8> =
+                    (0..rounds * side * side).map(|at| (at % 3 == round % 3).into()).collect();
+                agrees::stack(side, rounds, &readings).expect("a side and rounds in range");
+            }
+        });
     });
 }
