@@ -8,7 +8,7 @@
  *   - each pointer is valid, and aligned, for so many elements, and is not null where its count is 0;
  *   - a buffer that is written overlaps no other buffer of the same call;
  *   - nobody else writes to any of the buffers until the call returns, or reads one that is written;
- *   - the stack has room for the call (SURFACE_STACK_.. below).
+ *   - the thread's stack has room for the call (SURFACE_STACK_.. below).
  *
  * Threads: a call keeps nothing from one call to the next, allocates nothing and looks at nothing but
  * what it is lent, so any number of threads may make calls at once. Buffers that are only read may be
@@ -118,9 +118,9 @@ static inline const char *surface_refusal_text(unsigned number)
     }
 }
 
-/* Bytes of stack that each call needs: what was measured, rounded up to a multiple of 4,096, and 4,096
- * more for memcpy and memset, all that the library asks of the C library. The calls of one thread don't
- * nest, so the largest of those that it makes is enough. */
+/* Bytes of the thread's stack that each call needs: what was measured, rounded up to a multiple of
+ * 4,096, and 4,096 more for memcpy and memset, all that the library asks of the C library. The calls
+ * of one thread don't nest, so the largest of those that it makes is enough. */
 #define SURFACE_STACK_DECODE 57344
 #define SURFACE_STACK_DECODE_ROUNDS 57344
 #define SURFACE_STACK_VERDICT 65536

@@ -1,4 +1,4 @@
-/* How much stack each call needs, beside what the header says of it.
+/* How much stack memory each call needs, beside what the header says of it.
  *
  * A call is made on a painted stack; what it used is counted from the top down to the lowest byte that lost its paint, the return address
  * and the arguments that pass over the stack among it. What a call can use shows once every frame of it is made: arrays have fixed lengths
