@@ -265,9 +265,11 @@ stackSized L R readings ends marks syndrome =
 abbrev pub layerRules : ℕ → ℕ → List Rule
 layerRules L R = sideRule L ∷ roundsRule L R ∷ []
 
+abbrev pub readingRules : ℕ → ℕ → List ℕ → List ℕ → List ℕ → List ℕ → List Rule
+readingRules L R readings ends marks syndrome = lengthRule (stackSized L R readings ends marks syndrome) ∷ syndromeRule readings ∷ []
+
 unfoldable pub stackRules : ℕ → ℕ → List ℕ → List ℕ → List ℕ → List ℕ → List Rule
-stackRules L R readings ends marks syndrome =
-    layerRules L R ++ (lengthRule (stackSized L R readings ends marks syndrome) ∷ syndromeRule readings ∷ [])
+stackRules L R readings ends marks syndrome = layerRules L R ++ readingRules L R readings ends marks syndrome
 
 unfoldable pub stackRefusal : ℕ → ℕ → List ℕ → List ℕ → List ℕ → List ℕ → Test
 unfolding stackRules

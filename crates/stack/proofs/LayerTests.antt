@@ -1,5 +1,5 @@
--- The tests 11 and 15 of the stack's builder, in this order, as its code makes them: by the quotient of the vertex limit and a layer's vertices, not by a
--- product that might not fit. Assumes nothing.
+-- The tests 11 and 15 of the stack's builder, in this order, as its code makes them: by the quotient of the vertex limit and a layer's
+-- vertices, not by a product that might not fit. Assumes nothing.
 use Prim.Native.Nat.{ℕ, _*_, _/_, _≤_, _<_}
 use mathlib.Core.Path.{_≡_}
 use mathlib.Core.Bool.{_&&_}

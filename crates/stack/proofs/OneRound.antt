@@ -24,7 +24,8 @@ module _ (L : ℕ) where
   unfolding stackEnds torusEnds
   one-ends =
       ap (λ m. values m (stackEnd L 1)) {x = 2 * stackEdges L 1} {y = 4 * (L * L)} (omega arith)
-      ∙ values-cong (4 * (L * L)) (stackEnd L 1) (torusEnd L) (λ i h. rw (one-edge (i / 2) (omega arith), no-shift (torusFrom (i / 2)), no-shift (torusTo L (i / 2))))
+      ∙ values-cong (4 * (L * L)) (stackEnd L 1) (torusEnd L)
+      (λ i h. rw (one-edge (i / 2) (omega arith), no-shift (torusFrom (i / 2)), no-shift (torusTo L (i / 2))))
 
   one-marks : stackMarks L 1 ≡ torusMarks L
   unfolding stackMarks torusMarks

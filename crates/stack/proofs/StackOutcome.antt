@@ -1,6 +1,6 @@
 -- The outcome of the stack's builder, where a test fails and where all pass. Assumes nothing.
 use Prim.Native.Nat.{ℕ}
-use mathlib.Core.Path.{_≡_, refl}
+use mathlib.Core.Path.{_≡_, refl, ap}
 use mathlib.Core.List.{List}
 use mathlib.Core.Option.{none, some}
 use Rattle.model.specs.declared.refusal.Refusal.{Refusal}
@@ -27,10 +27,15 @@ module _ (L R : ℕ) (readings ends marks syndrome : List ℕ) where
       promised (Refused n) ends marks syndrome
       (record { result = rw p; ends-filled = refl; marks-filled = refl; syndrome-filled = refl })
 
-  pub stack-built : (ends′ marks′ syndrome′ : List ℕ) → stackRefusal L R readings ends marks syndrome ≡ none
-      → ends′ ≡ stackEnds L R → marks′ ≡ stackMarks L R → syndrome′ ≡ stackSyndrome L R readings
-      → Promised (Vertices (stackVertices L R)) ends′ marks′ syndrome′
+  pub stack-built : (n : ℕ) (ends′ marks′ syndrome′ : List ℕ) → stackRefusal L R readings ends marks syndrome ≡ none
+      → (n ≡ stackVertices L R) × (ends′ ≡ stackEnds L R) × (marks′ ≡ stackMarks L R) × (syndrome′ ≡ stackSyndrome L R readings)
+      → Promised (Vertices n) ends′ marks′ syndrome′
   unfolding stackAnswer
-  stack-built ends′ marks′ syndrome′ p ends-are marks-are syndrome-is =
-      promised (Vertices (stackVertices L R)) ends′ marks′ syndrome′
-      (record { result = rw p; ends-filled = ends-are; marks-filled = marks-are; syndrome-filled = syndrome-is })
+  stack-built n ends′ marks′ syndrome′ p filled =
+      promised (Vertices n) ends′ marks′ syndrome′
+      (record {
+        result = rw p (ap Vertices (filled .0));
+        ends-filled = filled .1;
+        marks-filled = filled .2;
+        syndrome-filled = filled .3;
+      })

@@ -1,33 +1,23 @@
 -- Where the stack's builder refuses nothing, side and rounds are those of a stack that is built, every buffer has its length, and the
 -- readings are valid bytes. Assumes nothing.
-use Prim.Native.Nat.{ℕ, _*_}
+use Prim.Native.Nat.{ℕ}
 use mathlib.Core.Path.{_≡_, sym, _∙_}
-use mathlib.Core.List.{List, [], _∷_}
+use mathlib.Core.List.{List}
 use mathlib.Core.Option.{none}
-use lib.ListN.{length}
 use Rattle.model.specs.declared.refusal.Refusal.the-variants.{BufferLength}
-use Rattle.model.specs.Board.{ValidBytes}
-use Rattle.model.specs.Stack.{stackVertices, stackEdges}
-use Rattle.model.specs.Refusals.{refusalOf, layerRules, lengthRule, syndromeRule, stackSized, stackRefusal}
+use Rattle.model.specs.Refusals.{refusalOf, layerRules, readingRules, stackSized, stackRefusal}
 use Rattle.board.proofs.Failures.{neither-fails, each-passes}
 use Rattle.board.proofs.Passing.{unless-passes, bytes-say}
-use Rattle.stack.specs.Layers.{StackWithin}
+use Rattle.stack.specs.Lent.{ForStack}
 use Rattle.stack.proofs.LayerTests.{passed-layers}
 use Rattle.stack.proofs.StackTests.{stack-tests, readings-long, syndrome-long, ends-long, marks-long}
-
-pub record ForStack (L R : ℕ) (readings ends marks syndrome : List ℕ) : Type 0 where
-  pub within : StackWithin L R
-  pub bytes : ValidBytes (stackVertices L R) readings
-  pub syndrome-sized : length syndrome ≡ stackVertices L R
-  pub ends-sized : length ends ≡ 2 * stackEdges L R
-  pub marks-sized : length marks ≡ stackEdges L R
 
 pub stack-passes : (L R : ℕ) (readings ends marks syndrome : List ℕ) → stackRefusal L R readings ends marks syndrome ≡ none
     → ForStack L R readings ends marks syndrome
 stack-passes L R readings ends marks syndrome p =
     let fits = stackSized L R readings ends marks syndrome in
     let t = neither-fails (refusalOf (layerRules L R)) _ (sym (stack-tests L R readings ends marks syndrome) ∙ p) in
-    let e = each-passes (lengthRule fits ∷ syndromeRule readings ∷ []) (t .1) in
+    let e = each-passes (readingRules L R readings ends marks syndrome) (t .1) in
     let fit = unless-passes fits BufferLength (e .0) in
     record {
       within = passed-layers L R (t .0);

@@ -3,13 +3,13 @@ use Prim.Native.Nat.{ℕ, _+_, _*_, _-_}
 use mathlib.Core.Path.{_≡_, ap}
 use mathlib.Core.Bool.{Bool, true, false, _&&_}
 use mathlib.Core.List.{List, [], _∷_}
-use mathlib.Core.Option.{none, some}
+use mathlib.Core.Option.{some}
 use borrow.Author.Tests.{eqb-true}
 use lib.ListN.{length}
 use Rattle.model.specs.declared.refusal.Refusal.the-variants.{BufferLength}
 use Rattle.model.specs.Sums.{orElse}
 use Rattle.model.specs.Stack.{layerVertices, stackVertices, stackEdges}
-use Rattle.model.specs.Refusals.{refusalOf, sized, layerRules, lengthRule, syndromeRule, stackSized, stackRefusal}
+use Rattle.model.specs.Refusals.{refusalOf, sized, syndromeRule, stackSized, layerRules, readingRules, stackRefusal}
 use Rattle.model.proofs.Xor.{and-left, and-right}
 use Rattle.model.proofs.RuleLists.{refusal-append}
 use Rattle.stack.specs.Layers.{StackWithin}
@@ -17,10 +17,9 @@ use Rattle.stack.proofs.Numbering.{edge-count}
 
 module _ (L R : ℕ) (readings ends marks syndrome : List ℕ) where
   pub stack-tests : stackRefusal L R readings ends marks syndrome
-      ≡ orElse (refusalOf (layerRules L R)) (refusalOf (lengthRule (stackSized L R readings ends marks syndrome) ∷ syndromeRule readings ∷ []))
+      ≡ orElse (refusalOf (layerRules L R)) (refusalOf (readingRules L R readings ends marks syndrome))
   unfolding stackRefusal
-  stack-tests =
-      refusal-append (layerRules L R) (lengthRule (stackSized L R readings ends marks syndrome) ∷ syndromeRule readings ∷ [])
+  stack-tests = refusal-append (layerRules L R) (readingRules L R readings ends marks syndrome)
 
   -- the lengths as the code compares them, by a count of the edges that it makes of the vertices
   abbrev pub sizedBy : ℕ → Bool
@@ -50,11 +49,11 @@ module _ (L R : ℕ) (readings ends marks syndrome : List ℕ) where
     pub marks-long : length marks ≡ stackEdges L R
     marks-long = eqb-true _ _ (and-right (sized ends (2 * stackEdges L R)) _ lists-fit)
 
-  -- where the tests 11 and 15 pass, the lengths decide, and then the readings
-  module _ (passed : refusalOf (layerRules L R) ≡ none) where
-    pub lengths-refuse : stackSized L R readings ends marks syndrome ≡ false → stackRefusal L R readings ends marks syndrome ≡ some BufferLength
-    lengths-refuse unfit = rw (stack-tests, passed, unfit)
+  -- the lengths decide, and then the readings
+  pub lengths-refuse : stackSized L R readings ends marks syndrome ≡ false
+      → refusalOf (readingRules L R readings ends marks syndrome) ≡ some BufferLength
+  lengths-refuse unfit = rw unfit
 
-    pub lengths-pass : stackSized L R readings ends marks syndrome ≡ true
-        → stackRefusal L R readings ends marks syndrome ≡ refusalOf (syndromeRule readings ∷ [])
-    lengths-pass fit = rw (stack-tests, passed, fit)
+  pub lengths-pass : stackSized L R readings ends marks syndrome ≡ true
+      → refusalOf (readingRules L R readings ends marks syndrome) ≡ refusalOf (syndromeRule readings ∷ [])
+  lengths-pass fit = rw fit

@@ -12,7 +12,8 @@ use Rattle.model.specs.Refusals.{Test, stackRefusal}
 use Rattle.model.specs.Outcomes.{answer, builtOr}
 use Rattle.model.specs.StackOutcomes.{stackAnswer, BuildsStack}
 use Rattle.model.proofs.Contradiction.{zero-one}
-use Rattle.stack.proofs.StackPasses.{ForStack, stack-passes}
+use Rattle.stack.specs.Lent.{ForStack}
+use Rattle.stack.proofs.StackPasses.{stack-passes}
 
 -- an answer with a vertex count: no test fails, and it is the count
 record Counts (t : Test) (n m : ℕ) : Type 0 where

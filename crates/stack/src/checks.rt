@@ -8,8 +8,9 @@ use model::limits::VERTICES;
 use model::refusal::Refusal;
 ghost use mathlib.Core.Path.{_≡_};
 ghost use Rattle.model.specs.Lent.{before};
-ghost use Rattle.model.specs.Refusals.{refusalOf, layerRules, stackRefusal};
+ghost use Rattle.model.specs.Refusals.{refusalOf, layerRules, readingRules, stackRefusal};
 ghost use Rattle.board.specs.Checks.{testOf};
+ghost use Rattle.stack.specs.Layers.{StackWithin};
 
 // The tests 11 and 15. No product of a side and a number of rounds is made before they have passed, as it might not fit.
 fn check_layers(side: usize, rounds: usize) -> Check
@@ -21,6 +22,34 @@ fn check_layers(side: usize, rounds: usize) -> Check
     let layer = side * side;
     if rounds < 1 || rounds > VERTICES / layer {
         return Check::Failed(Refusal::RoundCount);
+    }
+    Check::Passed
+}
+
+// The tests 3 and 7, once side and rounds are in range.
+fn check_readings(
+    side: usize,
+    rounds: usize,
+    readings: &[u8],
+    ends: &[u16],
+    marks: &[u8],
+    syndrome: &[u8],
+) -> Check
+    requires { ⌜ StackWithin side rounds ⌝ }
+    ensures { λ r.
+        ⌜ testOf r ≡ refusalOf
+        (readingRules side rounds (before readings) (before ends) (before marks) (before syndrome)) ⌝ }
+{
+    let layer = side * side;
+    let vertices = rounds * layer;
+    let edges = 2 * vertices + (vertices - layer);
+    let bytes = (readings.len() == vertices) & (syndrome.len() == vertices);
+    let lists = (ends.len() == 2 * edges) & (marks.len() == edges);
+    if !(bytes & lists) {
+        return Check::Failed(Refusal::BufferLength);
+    }
+    if let FoundVertex::At(v) = vertex_above(readings, 1) {
+        return Check::Failed(Refusal::SyndromeByte(v));
     }
     Check::Passed
 }
@@ -40,16 +69,5 @@ pub(crate) fn check_stack(
     if let Check::Failed(refusal) = check_layers(side, rounds) {
         return Check::Failed(refusal);
     }
-    let layer = side * side;
-    let vertices = rounds * layer;
-    let edges = 2 * vertices + (vertices - layer);
-    let bytes = (readings.len() == vertices) & (syndrome.len() == vertices);
-    let lists = (ends.len() == 2 * edges) & (marks.len() == edges);
-    if !(bytes & lists) {
-        return Check::Failed(Refusal::BufferLength);
-    }
-    if let FoundVertex::At(v) = vertex_above(readings, 1) {
-        return Check::Failed(Refusal::SyndromeByte(v));
-    }
-    Check::Passed
+    check_readings(side, rounds, readings, ends, marks, syndrome)
 }

@@ -1,8 +1,8 @@
 -- Document 01, "Numbers and places", of each call: of all refusals that apply it gives the one with the smallest number, and of those with
 -- that number the one with the smallest place. The numbers of the rules rise in all calls but four: the builders test the side before the
--- lengths, that of the stack the rounds too, and the writer the open bytes before the text; of these it is the first rule of the list that is broken. Outside the lists stand
--- 10, which decoding, in rounds too, and the verdict give only where nothing of their lists applies, and 13, which the reader gives alike.
--- Assumes nothing.
+-- lengths, that of the stack the rounds too, and the writer the open bytes before the text; of these it is the first rule of the list that
+-- is broken. Outside the lists stand 10, which decoding, in rounds too, and the verdict give only where nothing of their lists applies, and
+-- 13, which the reader gives alike. Assumes nothing.
 use Prim.Native.Nat.{ℕ, _*_, _≤_}
 use mathlib.Core.Path.{_≡_, refl, ap, _∙_}
 use mathlib.Core.Bool.{_&&_}
@@ -24,7 +24,7 @@ use Rattle.model.specs.Board.{Board, Sheet, vertexLimit}
 use Rattle.model.specs.Torus.{leastSide, largestSide}
 use Rattle.model.specs.Planar.{leastPlanar, largestPlanar, planarVertices, planarEdges}
 use Rattle.model.specs.Stack.{stackVertices}
-use Rattle.model.specs.Refusals.{Test, numberOf, noneAt, sized, lengthRule, sideRule, planarSideRule, decodeRules, decodeRefusal, verdictRules, verdictRefusal, distanceRules, distanceRefusal, torusRules, torusRefusal, planarRules, planarRefusal, syndromeRule, stackSized, layerRules, stackRules, stackRefusal}
+use Rattle.model.specs.Refusals.{Test, numberOf, noneAt, sized, lengthRule, sideRule, planarSideRule, decodeRules, decodeRefusal, verdictRules, verdictRefusal, distanceRules, distanceRefusal, torusRules, torusRefusal, planarRules, planarRefusal, layerRules, readingRules, stackRules, stackRefusal}
 use Rattle.model.specs.Outcomes.{answer, keyOrNone, decodeAnswer, judgedOrNone, verdictAnswer, distanceOf, distanceAnswer, torusAnswer}
 use Rattle.model.specs.RoundsOutcomes.{roundsOrNone, roundsAnswer}
 use Rattle.model.specs.Distance.{fewest}
@@ -188,8 +188,7 @@ pub stack-length : (L R : ℕ) (readings ends marks syndrome : List ℕ) → sta
     → (leastSide ≤ L) × (L ≤ largestSide) × (1 ≤ R) × (stackVertices L R ≤ vertexLimit)
 unfolding stackRefusal
 stack-length L R readings ends marks syndrome p =
-    let fit = stackSized L R readings ends marks syndrome in
-    let kept = earlier-kept (layerRules L R) (lengthRule fit ∷ syndromeRule readings ∷ []) BufferLength p others in
+    let kept = earlier-kept (layerRules L R) (readingRules L R readings ends marks syndrome) BufferLength p others in
     let side = not-false-true (leb leastSide L && leb L largestSide) (λ out. kept (TorusSide L) (here (out, refl))) in
     let rounds = not-false-true (leb 1 R && leb (stackVertices L R) vertexLimit) (λ out. kept RoundCount (there (here (out, refl)))) in (
       leb-true leastSide L (and-left (leb leastSide L) (leb L largestSide) side),

@@ -60,7 +60,12 @@ add-beside : tie.Need-add-beside
 add-beside c =
     let start = c .before .before .before .before in
     let a = start .args in
-    omega (arith, c .before .right-of .ensures, shifted-right (a .side) (a .rounds) (a .edge .0) (start .pre .0) (start .pre .1), start .pre .0 .vertex-limit)
+    omega (
+      arith,
+      c .before .right-of .ensures,
+      shifted-right (a .side) (a .rounds) (a .edge .0) (start .pre .0) (start .pre .1),
+      start .pre .0 .vertex-limit,
+    )
 
 returns : tie.Need-returns
 returns c =
@@ -80,7 +85,12 @@ add-under : tie.Need-add-under
 add-under c =
     let start = c .before .before .before .before in
     let a = start .args in
-    omega (arith, c .before .below-of .ensures, shifted-below (a .side) (a .rounds) (a .edge .0) (start .pre .0) (start .pre .1), start .pre .0 .vertex-limit)
+    omega (
+      arith,
+      c .before .below-of .ensures,
+      shifted-below (a .side) (a .rounds) (a .edge .0) (start .pre .0) (start .pre .1),
+      start .pre .0 .vertex-limit,
+    )
 
 returns-2 : tie.Need-returns-2
 returns-2 c =

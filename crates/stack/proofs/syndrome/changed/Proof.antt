@@ -22,7 +22,8 @@ returns : tie.Need-returns
 returns c =
     let start = c .before .before .before in
     let a = start .args in
-    first-layer-byte (a .side) (stackVertices (a .side) (a .rounds)) (a .v .0) (now (a .readings)) (start .pre .1) (start .pre .2) (c .before .if1 .taken)
+    first-layer-byte (a .side) (stackVertices (a .side) (a .rounds)) (a .v .0) (now (a .readings)) (start .pre .1) (start .pre .2)
+    (c .before .if1 .taken)
 
 shared-slice-read-result-2 : tie.Need-shared-slice-read-result-2
 shared-slice-read-result-2 c = search needs
