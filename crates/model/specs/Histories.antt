@@ -1,7 +1,7 @@
 -- Document 02, K1: what may happen to a torus of side L while it is read in R rounds, what is read then, and the set of stacked edges that
 -- it stands for.
 -- Assumes nothing.
-use Prim.Native.Nat.{ℕ, zero, suc, _+_, _*_, _<_}
+use Prim.Native.Nat.{ℕ, zero, suc, _+_, _<_}
 use mathlib.Core.Path.{_≡_}
 use mathlib.Core.Bool.{Bool, false, _&&_}
 use mathlib.Core.List.{List}

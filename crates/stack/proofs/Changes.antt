@@ -10,7 +10,7 @@ use lib.Bits.{bitXor}
 use lib.ListN.{getD}
 use Rattle.model.specs.Sums.{_⊕_, bit, ones}
 use Rattle.model.specs.Board.{ValidBytes}
-use Rattle.model.specs.Stack.{layerVertices, stackVertices, layerSyndrome}
+use Rattle.model.specs.Stack.{layerVertices, layerSyndrome}
 use Rattle.model.proofs.Bits.{byte-bit}
 
 -- the exclusive or of two bytes that are 0 or 1

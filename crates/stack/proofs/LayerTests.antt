@@ -1,11 +1,10 @@
 -- The tests 11 and 15 of the stack's builder, in this order, as its code makes them: by the quotient of the vertex limit and a layer's
 -- vertices, not by a product that might not fit. Assumes nothing.
-use Prim.Native.Nat.{ℕ, _*_, _/_, _≤_, _<_}
+use Prim.Native.Nat.{ℕ, _/_, _≤_, _<_}
 use mathlib.Core.Path.{_≡_}
 use mathlib.Core.Bool.{_&&_}
 use mathlib.Core.Option.{none, some}
 use native.Mathlib.Nat.{one-le-mul, div-lt-iff-lt-mul, le-div-iff-mul-le}
-use native.Mathlib.Omega.{arith}
 use borrow.Author.Tests.{le-leb, lt-leb, leb-true}
 use lib.Dec.{leb}
 use Rattle.model.specs.declared.refusal.Refusal.the-variants.{TorusSide, RoundCount}

@@ -67,9 +67,6 @@ upright-layer L R u some h =
     let below : u / layerVertices L < R - 1 = div-lt-iff-lt-mul {k = layerVertices L} {x = u} {y = R - 1} (omega arith) .1 (omega arith) in
     omega arith
 
-pub upright-vertex : (L u : ℕ) → 1 ≤ layerVertices L → u % layerVertices L < layerVertices L
-upright-vertex L u some = mod-lt u (omega arith)
-
 pub upright-less : (L R k v : ℕ) → k + 1 < R → v < layerVertices L → edgeNumber L R (upright k v) < stackEdges L R
 upright-less L R k v in-stack in-layer =
     let below : k < R - 1 = omega arith in

@@ -1,14 +1,14 @@
 -- What one turn of each loop over the edges writes: both ends of one edge. Assumes nothing.
-use Prim.Native.Nat.{ℕ, _+_, _*_, _/_, _<_}
-use mathlib.Core.Path.{_≡_, refl, sym, _∙_}
+use Prim.Native.Nat.{ℕ, _+_, _*_, _/_, _%_, _<_}
+use mathlib.Core.Path.{_≡_, refl, sym, ap, _∙_}
 use mathlib.Core.List.{List}
 use native.Mathlib.Omega.{arith}
 use lib.ListN.{length, set, length-set}
-use Rattle.model.specs.Stack.{layerVertices, stackVertices, flatEdges, stackEdge, lowerEnd, upperEnd, stackEnd}
+use Rattle.model.specs.Stack.{layerVertices, layerEdges, stackVertices, flatEdges, flat, stackEdge, lowerEnd, upperEnd, stackEnd}
 use Rattle.torus.specs.Filling.{Filled}
 use Rattle.torus.proofs.Filling.{filled-more, filled-to}
 use Rattle.stack.proofs.Numbering.{flat-count}
-use Rattle.stack.proofs.StackEdges.{first-end, second-end, lower-half, upright-lower, upright-upper}
+use Rattle.stack.proofs.StackEdges.{first-end, second-end, flat-is, lower-half, upright-lower, upright-upper}
 
 -- edge e, with its ends a and b
 ends-more :
@@ -22,8 +22,10 @@ ends-more L R e l a b w long first second =
 -- an edge in a layer: its first end has half its number
 pub flat-more :
     (L R e : ℕ) (l : List ℕ) (b : ℕ) → e < flatEdges L R → Filled (stackEnd L R) (2 * e) l → 2 * e + 1 < length l
-    → b ≡ upperEnd L (stackEdge L R e) → Filled (stackEnd L R) (2 * (e + 1)) (set (set l (2 * e) (e / 2)) (2 * e + 1) b)
-flat-more L R e l b h w long second = ends-more L R e l (e / 2) b w long (sym (lower-half L R e h)) second
+    → b ≡ upperEnd L (flat (e / layerEdges L) (e % layerEdges L))
+    → Filled (stackEnd L R) (2 * (e + 1)) (set (set l (2 * e) (e / 2)) (2 * e + 1) b)
+flat-more L R e l b h w long second =
+    ends-more L R e l (e / 2) b w long (sym (lower-half L R e h)) (second ∙ sym (ap (upperEnd L) (flat-is L R e h)))
 
 -- the edge from stacked vertex u to the next layer
 pub upright-more :

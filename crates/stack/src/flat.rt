@@ -4,17 +4,19 @@ use model::numbers::Vertex;
 use torus::cells::below_of;
 use torus::cells::right_of;
 ghost use mathlib.Core.Path.{_≡_};
-ghost use Prim.Native.Nat.{_*_, _<_};
+ghost use Prim.Native.Nat.{_*_, _/_, _%_, _<_};
 ghost use lib.ListN.{length};
+ghost use Rattle.model.specs.Board.{vertexLimit};
 ghost use Rattle.model.specs.Lent.{after};
-ghost use Rattle.model.specs.Stack.{flatEdges, stackEdges, stackEdge, upperEnd, stackEnd};
+ghost use Rattle.model.specs.Stack.{layerEdges, flatEdges, stackEdges, flat, upperEnd, stackEnd};
 ghost use Rattle.torus.specs.Filling.{Filled};
+ghost use Rattle.torus.specs.Sides.{SideWithin};
 ghost use Rattle.stack.specs.Layers.{StackWithin};
 
 // The other end of an edge in a layer: the vertex to the right, or below, in the same layer.
-fn other_end(side: usize, rounds: usize, edge: Edge) -> Vertex
-    requires { ⌜ StackWithin side rounds × (edge .0 < flatEdges side rounds) ⌝ }
-    ensures { λ r. ⌜ r .0 ≡ upperEnd side (stackEdge side rounds (edge .0)) ⌝ }
+fn other_end(side: usize, edge: Edge) -> Vertex
+    requires { ⌜ SideWithin side × (edge .0 < 2 * vertexLimit) ⌝ }
+    ensures { λ r. ⌜ r .0 ≡ upperEnd side (flat (edge .0 / layerEdges side) (edge .0 % layerEdges side)) ⌝ }
 {
     let e = edge.0 as usize;
     let layer = side * side;
@@ -43,7 +45,7 @@ pub(crate) fn fill_flat(side: usize, rounds: usize, ends: &mut [u16])
     let mut e = 0;
     while e < edges {
         let number = e as u16;
-        let other = other_end(side, rounds, Edge(number));
+        let other = other_end(side, Edge(number));
         let i = 2 * e;
         ends[i] = number / 2;
         ends[i + 1] = other.0;

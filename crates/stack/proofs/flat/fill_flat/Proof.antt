@@ -38,7 +38,7 @@ cast-number c = search needs
 other-end-requires : tie.Need-other-end-requires Inv-loop μ-loop
 other-end-requires c κs =
     let start = c .before .before .before in
-    (start .pre .0, omega (arith, flat-count (start .args .side) (start .args .rounds)))
+    (start .pre .0 .side, omega (arith, start .pre .0 .vertex-limit))
 
 mul-i : tie.Need-mul-i Inv-loop μ-loop
 mul-i c = search needs

@@ -1,11 +1,12 @@
 -- `stack::flat::other_end` meets its contract: the neighbour of the torus, shifted by the first vertex of its layer. Assumes nothing.
-use Prim.Native.Nat.{_+_, _*_, _/_}
+use Prim.Native.Nat.{_+_, _*_, _/_, _%_}
 use mathlib.Core.Path.{sym, ap, _∙_}
+use native.Mathlib.Nat.{one-le-mul}
 use native.Mathlib.Omega.{arith}
 use borrow.Author.Needs.{needs}
 use Rattle.model.specs.Stack.{layerVertices, layerEdges}
-use Rattle.stack.proofs.Numbering.{some-vertex, layer-limit}
-use Rattle.stack.proofs.Neighbours.{inner-vertex, first-limit, shifted-right, shifted-below, right-neighbour, below-neighbour}
+use Rattle.torus.proofs.Numbering.{square-limit}
+use Rattle.stack.proofs.Neighbours.{inner-vertex, right-small, below-small, first-small, right-neighbour, below-neighbour}
 use Rattle.stack.proofs.flat.other_end.Statement.{statement}
 use Rattle.stack.proofs.flat.other_end.Tie as tie
 
@@ -14,47 +15,42 @@ cast-e c = search needs
 
 mul-layer : tie.Need-mul-layer
 mul-layer c =
-    let start = c .before in omega (arith, layer-limit (start .args .side) (start .args .rounds) (start .pre .0))
+    let start = c .before in omega (arith, square-limit (start .args .side) (start .pre .0 .most))
 
 mul-first : tie.Need-mul-first
 mul-first c =
-    let start = c .before in omega (arith, layer-limit (start .args .side) (start .args .rounds) (start .pre .0))
+    let start = c .before in omega (arith, square-limit (start .args .side) (start .pre .0 .most))
 
 div-first : tie.Need-div-first
 div-first c =
-    let start = c .before in omega (arith, some-vertex (start .args .side) (start .args .rounds) (start .pre .0))
+    let least = c .before .pre .0 .least in omega (arith, one-le-mul least least)
 
 mul-first-2 : tie.Need-mul-first-2
 mul-first-2 c =
-    let start = c .before in
-    let a = start .args in
-    omega (arith, first-limit (a .side) (a .rounds) (a .edge .0) (start .pre .0) (start .pre .1))
+    let start = c .before in omega (arith, first-small (start .args .side) (start .args .edge .0) (start .pre .0) (start .pre .1))
 
 cast-first : tie.Need-cast-first
 cast-first c =
-    let start = c .before in
-    let a = start .args in
-    omega (arith, first-limit (a .side) (a .rounds) (a .edge .0) (start .pre .0) (start .pre .1))
+    let start = c .before in omega (arith, first-small (start .args .side) (start .args .edge .0) (start .pre .0) (start .pre .1))
 
 mul-inner : tie.Need-mul-inner
 mul-inner c =
-    let start = c .before in omega (arith, layer-limit (start .args .side) (start .args .rounds) (start .pre .0))
+    let start = c .before in omega (arith, square-limit (start .args .side) (start .pre .0 .most))
 
 rem-inner : tie.Need-rem-inner
 rem-inner c =
-    let start = c .before in omega (arith, some-vertex (start .args .side) (start .args .rounds) (start .pre .0))
+    let least = c .before .pre .0 .least in omega (arith, one-le-mul least least)
 
 cast-half : tie.Need-cast-half
 cast-half c =
     let start = c .before in
     let a = start .args in
-    omega (arith, layer-limit (a .side) (a .rounds) (start .pre .0), inner-vertex (a .side) (a .rounds) (a .edge .0) (start .pre .0))
+    omega (arith, square-limit (a .side) (start .pre .0 .most), inner-vertex (a .side) (a .edge .0) (start .pre .0))
 
 right-of-requires : tie.Need-right-of-requires
 right-of-requires c κs =
     let start = c .before .before in
-    let a = start .args in
-    (start .pre .0 .side, inner-vertex (a .side) (a .rounds) (a .edge .0) (start .pre .0))
+    let a = start .args in (start .pre .0, inner-vertex (a .side) (a .edge .0) (start .pre .0))
 
 add-beside : tie.Need-add-beside
 add-beside c =
@@ -63,23 +59,21 @@ add-beside c =
     omega (
       arith,
       c .before .right-of .ensures,
-      shifted-right (a .side) (a .rounds) (a .edge .0) (start .pre .0) (start .pre .1),
-      start .pre .0 .vertex-limit,
+      right-small (a .side) (a .edge .0) (start .pre .0),
+      first-small (a .side) (a .edge .0) (start .pre .0) (start .pre .1),
     )
 
 returns : tie.Need-returns
 returns c =
-    let start = c .before .before .before .before in
-    let a = start .args in
+    let a = c .before .before .before .before .args in
     let first = a .edge .0 / layerEdges (a .side) * layerVertices (a .side) in
     ap (λ v. first + v) (c .before .right-of .ensures)
-    ∙ sym (right-neighbour (a .side) (a .rounds) (a .edge .0) (start .pre .0) (start .pre .1) (c .before .before .if1 .taken))
+    ∙ sym (right-neighbour (a .side) (a .edge .0 / layerEdges (a .side)) (a .edge .0 % layerEdges (a .side)) (c .before .before .if1 .taken))
 
 below-of-requires : tie.Need-below-of-requires
 below-of-requires c κs =
     let start = c .before .before in
-    let a = start .args in
-    (start .pre .0 .side, inner-vertex (a .side) (a .rounds) (a .edge .0) (start .pre .0))
+    let a = start .args in (start .pre .0, inner-vertex (a .side) (a .edge .0) (start .pre .0))
 
 add-under : tie.Need-add-under
 add-under c =
@@ -88,17 +82,16 @@ add-under c =
     omega (
       arith,
       c .before .below-of .ensures,
-      shifted-below (a .side) (a .rounds) (a .edge .0) (start .pre .0) (start .pre .1),
-      start .pre .0 .vertex-limit,
+      below-small (a .side) (a .edge .0) (start .pre .0),
+      first-small (a .side) (a .edge .0) (start .pre .0) (start .pre .1),
     )
 
 returns-2 : tie.Need-returns-2
 returns-2 c =
-    let start = c .before .before .before .before in
-    let a = start .args in
+    let a = c .before .before .before .before .args in
     let first = a .edge .0 / layerEdges (a .side) * layerVertices (a .side) in
     ap (λ v. first + v) (c .before .below-of .ensures)
-    ∙ sym (below-neighbour (a .side) (a .rounds) (a .edge .0) (start .pre .0) (start .pre .1) (c .before .before .if1 .left))
+    ∙ sym (below-neighbour (a .side) (a .edge .0 / layerEdges (a .side)) (a .edge .0 % layerEdges (a .side)) (c .before .before .if1 .left))
 
 pub other-end-spec : {M : Type 1} → statement M
 other-end-spec =

@@ -1,16 +1,16 @@
 -- `stack::syndrome::changed` meets its contract: by the layer of its vertex. Assumes nothing.
-use mathlib.Core.Path.{_≡_}
+use native.Mathlib.Nat.{one-le-mul}
 use native.Mathlib.Omega.{arith}
 use borrow.Author.Needs.{needs}
 use denote.Ref.{now}
-use Rattle.model.specs.Stack.{stackVertices}
-use Rattle.stack.proofs.Numbering.{some-vertex, layer-limit}
+use lib.ListN.{length}
+use Rattle.torus.proofs.Numbering.{square-limit}
 use Rattle.stack.proofs.Changes.{first-layer-byte, later-layer-byte}
 use Rattle.stack.proofs.syndrome.changed.Statement.{statement}
 use Rattle.stack.proofs.syndrome.changed.Tie as tie
 
 mul-layer : tie.Need-mul-layer
-mul-layer c = omega (arith, layer-limit (c .args .side) (c .args .rounds) (c .pre .0))
+mul-layer c = omega (arith, square-limit (c .args .side) (c .pre .0 .most))
 
 cast-u : tie.Need-cast-u
 cast-u c = search needs
@@ -22,7 +22,7 @@ returns : tie.Need-returns
 returns c =
     let start = c .before .before .before in
     let a = start .args in
-    first-layer-byte (a .side) (stackVertices (a .side) (a .rounds)) (a .v .0) (now (a .readings)) (start .pre .1) (start .pre .2)
+    first-layer-byte (a .side) (length (now (a .readings))) (a .v .0) (now (a .readings)) (start .pre .1) (start .pre .2)
     (c .before .if1 .taken)
 
 shared-slice-read-result-2 : tie.Need-shared-slice-read-result-2
@@ -35,8 +35,9 @@ returns-2 : tie.Need-returns-2
 returns-2 c =
     let start = c .before .before .before .before in
     let a = start .args in
-    later-layer-byte (a .side) (stackVertices (a .side) (a .rounds)) (a .v .0) (now (a .readings)) (start .pre .1) (start .pre .2)
-    (some-vertex (a .side) (a .rounds) (start .pre .0)) (c .before .before .if1 .left)
+    let least = start .pre .0 .least in
+    later-layer-byte (a .side) (length (now (a .readings))) (a .v .0) (now (a .readings)) (start .pre .1) (start .pre .2)
+    (one-le-mul least least) (c .before .before .if1 .left)
 
 pub changed-spec : {M : Type 1} → statement M
 changed-spec =
