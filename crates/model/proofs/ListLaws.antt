@@ -10,7 +10,8 @@ use borrow.Author.Tests.{eqb-true, eqb-false}
 use lib.Seq.{ext-getD, getD-set-same, getD-set-other, length-take-le}
 use lib.Dec.{eqb}
 use Rattle.model.specs.Sums.{Set, bit, values, ones, bytes}
-use Rattle.model.proofs.Bits.{eqb-bit}
+use Rattle.model.specs.Board.{ValidBytes}
+use Rattle.model.proofs.Bits.{eqb-bit, bit-bound}
 
 pub length-values : {A : Type 0} (n : ℕ) (f : ℕ → A) → length (values n f) ≡ n
 unfolding values
@@ -50,6 +51,14 @@ zero-everywhere (suc n) (suc i) = zero-everywhere n i
 -- the set of a buffer made from a set is that set
 pub ones-bytes : (n : ℕ) (D : Set) (i : ℕ) → i < n → ones (bytes n D) i ≡ D i
 ones-bytes n D i h = ap (λ x. eqb x 1) (getD-values n (λ i. bit (D i)) i 0 h) ∙ eqb-bit (D i)
+
+-- the bytes of a set are valid
+pub bytes-valid : (n : ℕ) (D : Set) → ValidBytes n (bytes n D)
+bytes-valid n D =
+    record {
+      count = length-values n (λ i. bit (D i));
+      each = λ i h. rw (getD-values n (λ i. bit (D i)) i 0 h) (bit-bound (D i));
+    }
 
 -- a list after a store, at every index
 pub getD-set : {A : Type 0} (l : List A) (i j : ℕ) (a d : A) → i < length l → getD (set l i a) j d ≡ cond (eqb i j) a (getD l j d)

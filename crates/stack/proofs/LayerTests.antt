@@ -4,7 +4,7 @@ use Prim.Native.Nat.{ℕ, _/_, _≤_, _<_}
 use mathlib.Core.Path.{_≡_}
 use mathlib.Core.Bool.{_&&_}
 use mathlib.Core.Option.{none, some}
-use native.Mathlib.Nat.{one-le-mul, div-lt-iff-lt-mul, le-div-iff-mul-le}
+use native.Mathlib.Nat.{div-lt-iff-lt-mul, le-div-iff-mul-le}
 use borrow.Author.Tests.{le-leb, lt-leb, leb-true}
 use lib.Dec.{leb}
 use Rattle.model.specs.declared.refusal.Refusal.the-variants.{TorusSide, RoundCount}
@@ -17,6 +17,7 @@ use Rattle.board.proofs.Failures.{each-passes}
 use Rattle.board.proofs.Passing.{unless-passes}
 use Rattle.torus.specs.Sides.{SideWithin}
 use Rattle.stack.specs.Layers.{StackWithin}
+use Rattle.stack.proofs.Numbering.{some-cell}
 
 module _ (L R : ℕ) where
   pub side-too-small : L < leastSide → refusalOf (layerRules L R) ≡ some (TorusSide L)
@@ -29,20 +30,17 @@ module _ (L R : ℕ) where
   no-round w h = rw (le-leb leastSide L (w .least), le-leb L largestSide (w .most), lt-leb 1 R h)
 
   -- the quotient tells whether the product is within the limit
-  some-cell : SideWithin L → 0 < layerVertices L
-  some-cell w = one-le-mul (w .least) (w .least)
-
   pub too-many-rounds : SideWithin L → 1 ≤ R → vertexLimit / layerVertices L < R → refusalOf (layerRules L R) ≡ some RoundCount
   too-many-rounds w one h =
       rw (
         le-leb leastSide L (w .least),
         le-leb L largestSide (w .most),
         le-leb 1 R one,
-        lt-leb (stackVertices L R) vertexLimit (div-lt-iff-lt-mul (some-cell w) .0 h),
+        lt-leb (stackVertices L R) vertexLimit (div-lt-iff-lt-mul (some-cell L w) .0 h),
       )
 
   pub rounds-fit : SideWithin L → R ≤ vertexLimit / layerVertices L → stackVertices L R ≤ vertexLimit
-  rounds-fit w h = le-div-iff-mul-le (some-cell w) .0 h
+  rounds-fit w h = le-div-iff-mul-le (some-cell L w) .0 h
 
   pub layers-pass : StackWithin L R → refusalOf (layerRules L R) ≡ none
   layers-pass w =

@@ -1,8 +1,8 @@
 -- The other end of an edge in a layer: it is the torus's, in the same layer. Assumes nothing.
-use Prim.Native.Nat.{ℕ, _*_, _/_, _%_, _≤_, _<_}
+use Prim.Native.Nat.{ℕ, _*_, _/_, _%_, _<_}
 use mathlib.Core.Path.{_≡_}
 use mathlib.Core.Logic.{_≢_}
-use native.Mathlib.Nat.{one-le-mul, div-mul-le-self, mul-left-comm}
+use native.Mathlib.Nat.{div-mul-le-self, mul-left-comm}
 use native.Mathlib.Omega.{arith}
 use borrow.Author.Tests.{eq-eqb, ne-eqb}
 use Rattle.model.specs.Board.{vertexLimit}
@@ -10,15 +10,13 @@ use Rattle.model.specs.Torus.{rightOf, below}
 use Rattle.model.specs.Stack.{layerVertices, layerEdges, vertexIn, flat, upperEnd}
 use Rattle.torus.specs.Sides.{SideWithin}
 use Rattle.torus.proofs.Numbering.{right-limit, below-limit}
+use Rattle.stack.proofs.Numbering.{some-cell}
 use Rattle.stack.proofs.StackEdges.{flat-edge}
 
 module _ (L e : ℕ) (w : SideWithin L) where
-  some-cell : 1 ≤ layerVertices L
-  some-cell = one-le-mul (w .least) (w .least)
-
   -- the vertex of the torus that the edge leaves, and its neighbours
   pub inner-vertex : e % layerEdges L / 2 < layerVertices L
-  inner-vertex = omega (arith, flat-edge L e some-cell)
+  inner-vertex = omega (arith, flat-edge L e (some-cell L w))
 
   pub right-small : rightOf L (e % layerEdges L / 2) < vertexLimit
   right-small = right-limit L (e % layerEdges L / 2) w inner-vertex

@@ -5,12 +5,16 @@ use native.Mathlib.Nat.{mul-le-mul-right, mul-left-comm, add-mul, one-le-mul}
 use native.Mathlib.Omega.{arith}
 use Rattle.model.specs.Board.{vertexLimit, edgeLimit}
 use Rattle.model.specs.Stack.{layerVertices, stackVertices, flatEdges, stackEdges}
+use Rattle.torus.specs.Sides.{SideWithin}
 use Rattle.torus.proofs.Numbering.{square-limit}
 use Rattle.stack.specs.Layers.{StackWithin}
 
 -- every layer has a vertex, and twice as many edges as vertices
+pub some-cell : (L : ℕ) → SideWithin L → 1 ≤ layerVertices L
+some-cell L w = one-le-mul (w .least) (w .least)
+
 pub some-vertex : (L R : ℕ) → StackWithin L R → 1 ≤ layerVertices L
-some-vertex L R w = one-le-mul (w .side .least) (w .side .least)
+some-vertex L R w = some-cell L (w .side)
 
 pub layer-limit : (L R : ℕ) → StackWithin L R → layerVertices L ≤ vertexLimit
 layer-limit L R w = square-limit L (w .side .most)

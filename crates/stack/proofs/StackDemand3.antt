@@ -13,7 +13,7 @@ use Rattle.model.specs.declared.answers.Built.{Built}
 use Rattle.model.specs.declared.answers.Built.the-variants.{Vertices}
 use Rattle.model.specs.declared.answers.Decoded.{Decoded}
 use Rattle.model.specs.declared.answers.Decoded.the-variants.{Refused}
-use Rattle.model.specs.Sums.{bit, ones}
+use Rattle.model.specs.Sums.{ones}
 use Rattle.model.specs.Board.{Sheet, ValidBytes, ValidSheet, withoutOpen, sheetOf}
 use Rattle.model.specs.Syndrome.{HasSyndrome}
 use Rattle.model.specs.Winding.{size}
@@ -24,8 +24,7 @@ use Rattle.model.specs.Histories.{History, ReadingsOf, events, historyOf}
 use Rattle.model.specs.Refusals.{decodeRefusal}
 use Rattle.model.specs.Outcomes.{keyOrNone, Decodes}
 use Rattle.model.specs.StackOutcomes.{BuildsStack, StacksSoundly, KeyFor}
-use Rattle.model.proofs.Bits.{bit-bound}
-use Rattle.model.proofs.ListLaws.{length-values, getD-values}
+use Rattle.model.proofs.ListLaws.{bytes-valid}
 use Rattle.theory.proofs.Decodings.{passed-answer, none-answer, key-answer}
 use Rattle.theory.proofs.Demand3.{decodes-demand3}
 use Rattle.board.proofs.Calls.{passes-decode}
@@ -48,15 +47,10 @@ stack-soundly L R readings ends marks syndrome r ends′ marks′ syndrome′ b 
         (events-syndrome L R (w .lent .within) h readings its)
 
 -- the stack's syndrome bytes are valid
-bytes-valid : (L R : ℕ) (readings : List ℕ) → ValidBytes (stackVertices L R) (stackSyndrome L R readings)
+syndrome-valid : (L R : ℕ) (readings : List ℕ) → ValidBytes (stackVertices L R) (stackSyndrome L R readings)
 unfolding stackSyndrome
-bytes-valid L R readings =
-    record {
-      count = length-values (stackVertices L R) (λ u. bit (layerSyndrome L readings (u / layerVertices L) (u % layerVertices L)));
-      each = λ u h.
-          rw (getD-values (stackVertices L R) (λ u. bit (layerSyndrome L readings (u / layerVertices L) (u % layerVertices L))) u 0 h)
-          (bit-bound (layerSyndrome L readings (u / layerVertices L) (u % layerVertices L)));
-    }
+syndrome-valid L R readings =
+    bytes-valid (stackVertices L R) (λ u. layerSyndrome L readings (u / layerVertices L) (u % layerVertices L))
 
 -- The stack with its syndrome and any loss is a valid sheet.
 module _ (L R : ℕ) (w : StackWithin L R) (readings loss : List ℕ) (lost : ValidBytes (stackEdges L R) loss) where
@@ -68,7 +62,7 @@ module _ (L R : ℕ) (w : StackWithin L R) (readings loss : List ℕ) (lost : Va
   sheet-valid =
       record {
         board = stack-valid L R w;
-        syndrome = bytes-valid L R readings;
+        syndrome = syndrome-valid L R readings;
         loss = record { count = lost .count ∙ sym (edge-total L R); each = λ e h. lost .each e (omega (arith, edge-total L R)) };
         unlit = λ v h p. absurd (false≢true (sym (stack-sealed L R .shut v h) ∙ p));
       }

@@ -18,10 +18,10 @@ use Rattle.model.proofs.Xor.{xor-assoc, and-xor}
 use Rattle.model.proofs.SumLaws.{odd-cong, odd-none, odd-xor, odd-and, odd-at, odd-append, odd-blocks}
 use Rattle.theory.proofs.Syndromes.{shut-syndrome}
 use Rattle.torus.proofs.TorusRows as flat-rows
+use Rattle.torus.proofs.TorusValid.{to-less}
 use Rattle.stack.specs.Layers.{StackWithin}
 use Rattle.stack.proofs.StackEdges.{flat-number, upright-lower, upright-upper}
 use Rattle.stack.proofs.StackRows.{edge-total, first-is, second-is}
-use Rattle.stack.proofs.StackValid.{to-less}
 
 -- D has the edge from vertex v in layer k to the next layer, which there is
 abbrev pub toAbove : (L R : ℕ) → Set → ℕ → Set
@@ -106,7 +106,7 @@ module _ (L R : ℕ) (w : StackWithin L R) (k v : ℕ) (in-stack : k < R) (in-la
       odd-cong m (λ e. at (j * m + e)) (λ e. eqb k j && own j e)
       (λ e l.
       let from = eqb-digits n j k (torusFrom e) v (omega arith) in-layer in
-      let to = eqb-digits n j k (torusTo L e) v (to-less L e (w .side) l) in-layer in
+      let to = eqb-digits n j k (torusTo L e) v (to-less L e (w .side .least) l) in-layer in
       rw (flat-number L R j e h l, from, to) (front (D (j * m + e)) (eqb k j) (eqb (torusFrom e) v) (eqb (torusTo L e) v)))
       ∙ odd-and m (eqb k j) (own j)
       ∙ and-comm (eqb k j) (oddUpTo m (own j))

@@ -4,30 +4,16 @@ use mathlib.Core.Path.{_≡_}
 use native.Mathlib.Decide.{decLt}
 use native.Mathlib.Omega.{arith}
 use Rattle.model.specs.Board.{Valid, edges}
-use Rattle.model.specs.Torus.{torusTo, torusMark, torus}
-use Rattle.model.specs.Stack.{layerVertices, layerEdges, stackVertices, flatEdges, stackEdges, stackEdge, lowerEnd, upperEnd, edgeMark, stack}
+use Rattle.model.specs.Torus.{torusTo}
+use Rattle.model.specs.Stack.{layerEdges, stackVertices, flatEdges, stackEdges, stackEdge, lowerEnd, upperEnd, edgeMark, stack}
 use Rattle.model.proofs.OpenBytes.{zeros-valid}
-use Rattle.torus.specs.Sides.{SideWithin}
-use Rattle.torus.proofs.TorusRows as flat-rows
-use Rattle.torus.proofs.TorusValid.{torus-valid}
+use Rattle.torus.proofs.TorusValid.{to-less, mark-less}
 use Rattle.stack.specs.Layers.{StackWithin}
 use Rattle.stack.proofs.Numbering.{some-vertex, first-layer, flat-count, upright-count, edge-limit}
 use Rattle.stack.proofs.StackEdges.{vertex-less, flat-is, flat-layer, flat-edge, lower-half, upright-is, upright-lower, upright-upper}
 use Rattle.stack.proofs.StackRows.{edge-total, end-total, first-is, second-is, mark-is}
 
--- in the torus the other end of an edge is a vertex, and its mark is at most 3
-pub to-less : (L e : ℕ) → SideWithin L → e < layerEdges L → torusTo L e < layerVertices L
-unfolding torus
-to-less L e w h =
-    let less = torus-valid L w .inside .second-in-range e (omega (arith, flat-rows.edge-count L)) in
-    omega (arith, flat-rows.second-is L e h, less)
-
-mark-small : (L e : ℕ) → SideWithin L → e < layerEdges L → torusMark L e ≤ 3
-mark-small L e w h =
-    let small = torus-valid L w .mark-in-range e (omega (arith, flat-rows.edge-count L)) in
-    omega (arith, flat-rows.mark-is L e h, small)
-
--- so it is in the stack
+-- the ends of an edge are vertices of the stack, and its mark is at most 3, as on the torus
 module _ (L R e : ℕ) (w : StackWithin L R) (h : e < stackEdges L R) where
   abbrev u : ℕ
   u = e - flatEdges L R
@@ -50,15 +36,15 @@ module _ (L R e : ℕ) (w : StackWithin L R) (h : e < stackEdges L R) where
             rw (flat-is L R e first)
             (vertex-less L R (e / layerEdges L) (torusTo L (e % layerEdges L))
             (flat-layer L R e (some-vertex L R w) first)
-            (to-less L (e % layerEdges L) (w .side) (flat-edge L e (some-vertex L R w))))
+            (to-less L (e % layerEdges L) (w .side .least) (flat-edge L e (some-vertex L R w))))
         | no last ↦
             rw (past (omega arith), upright-upper L R u) (omega (arith, upright-count L R w, first-layer L R w))
       ]
 
-  mark-less : edgeMark L (stackEdge L R e) ≤ 3
-  mark-less =
+  mark-small : edgeMark L (stackEdge L R e) ≤ 3
+  mark-small =
       elim (decLt e (flatEdges L R)) [
-        | yes first ↦ rw (flat-is L R e first) (mark-small L (e % layerEdges L) (w .side) (flat-edge L e (some-vertex L R w)))
+        | yes first ↦ rw (flat-is L R e first) (mark-less L (e % layerEdges L) (w .side .least) (flat-edge L e (some-vertex L R w)))
         | no last ↦ rw (past (omega arith), upright-is L R u) (omega arith)
       ]
 
@@ -74,7 +60,7 @@ stack-valid L R w =
         first-in-range = λ e h. rw (first-is L R e (within e h)) (lower-less L R e w (within e h));
         second-in-range = λ e h. rw (second-is L R e (within e h)) (upper-less L R e w (within e h));
       };
-      mark-in-range = λ e h. rw (mark-is L R e (within e h)) (mark-less L R e w (within e h));
+      mark-in-range = λ e h. rw (mark-is L R e (within e h)) (mark-small L R e w (within e h));
       open-bytes = zeros-valid (stackVertices L R);
     }
   where

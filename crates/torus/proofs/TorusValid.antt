@@ -21,13 +21,13 @@ module _ (L e : ℕ) (least : leastSide ≤ L) (h : e < 2 * (L * L)) where
   vertex-less : e / 2 < L * L
   vertex-less = omega arith
 
-  to-less : torusTo L e < L * L
+  pub to-less : torusTo L e < L * L
   to-less =
       either (λ n. n < L * L) (eqb (e % 2) 0) (rightOf L (e / 2)) (below L (e / 2))
       (right-less L (e / 2) (omega arith) vertex-less)
       (below-less L (e / 2) (omega arith))
 
-  mark-less : torusMark L e ≤ 3
+  pub mark-less : torusMark L e ≤ 3
   mark-less =
       either (λ n. n ≤ 3) (eqb (e % 2) 0) _ _
       (either (λ n. n ≤ 3) (eqb (column L (e / 2)) (L - 1)) 1 0 (omega arith) (omega arith))

@@ -9,16 +9,15 @@ use Rattle.model.specs.declared.answers.Decoded.{Decoded}
 use Rattle.model.specs.declared.answers.Decoded.the-variants as decoded
 use Rattle.model.specs.declared.answers.Verdict.{Verdict}
 use Rattle.model.specs.declared.answers.Verdict.the-variants as verdict
-use Rattle.model.specs.Sums.{Set, _⊕_, bit, ones, bytes}
-use Rattle.model.specs.Board.{Board, Sheet, ValidBytes, edges}
+use Rattle.model.specs.Sums.{Set, _⊕_, ones, bytes}
+use Rattle.model.specs.Board.{Board, Sheet, edges}
 use Rattle.model.specs.Winding.{together, size}
 use Rattle.model.specs.Decoding.{smallestOdd, growths, corrected}
 use Rattle.model.specs.Verdict.{differs, judgedAt, judged}
 use Rattle.model.specs.Refusals.{noneAt, verdictRefusal}
 use Rattle.model.specs.Outcomes.{keyOrNone, keyOr, Decodes, judgedOrNone, verdictAnswer, Judges}
 use Rattle.model.proofs.Contradiction.{zero-one}
-use Rattle.model.proofs.Bits.{bit-bound}
-use Rattle.model.proofs.ListLaws.{ones-bytes, length-values, getD-values}
+use Rattle.model.proofs.ListLaws.{ones-bytes, bytes-valid}
 use Rattle.theory.proofs.CrossedLines.{crossings-cong}
 use Rattle.theory.proofs.Decodings.{passed-answer, none-answer, key-answer}
 use Rattle.board.proofs.Calls.{passes-decode, passes-verdict}
@@ -30,14 +29,6 @@ unfolding judged
 judged-cong B S C D H same =
     ap (λ x. judgedAt (differs B S H) x)
     (crossings-cong B (together H C) (together H D) (λ e h. ap (λ t. H e ⊕ t) (same e h)))
-
--- the bytes of a set are valid
-bytes-valid : (n : ℕ) (D : Set) → ValidBytes n (bytes n D)
-bytes-valid n D =
-    record {
-      count = length-values n (λ e. bit (D e));
-      each = λ i h. rw (getD-values n (λ e. bit (D e)) i 0 h) (bit-bound (D i));
-    }
 
 -- The verdict's answer
 

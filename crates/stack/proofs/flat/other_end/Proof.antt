@@ -1,11 +1,11 @@
 -- `stack::flat::other_end` meets its contract: the neighbour of the torus, shifted by the first vertex of its layer. Assumes nothing.
 use Prim.Native.Nat.{_+_, _*_, _/_, _%_}
 use mathlib.Core.Path.{sym, ap, _∙_}
-use native.Mathlib.Nat.{one-le-mul}
 use native.Mathlib.Omega.{arith}
 use borrow.Author.Needs.{needs}
 use Rattle.model.specs.Stack.{layerVertices, layerEdges}
 use Rattle.torus.proofs.Numbering.{square-limit}
+use Rattle.stack.proofs.Numbering.{some-cell}
 use Rattle.stack.proofs.Neighbours.{inner-vertex, right-small, below-small, first-small, right-neighbour, below-neighbour}
 use Rattle.stack.proofs.flat.other_end.Statement.{statement}
 use Rattle.stack.proofs.flat.other_end.Tie as tie
@@ -23,7 +23,7 @@ mul-first c =
 
 div-first : tie.Need-div-first
 div-first c =
-    let least = c .before .pre .0 .least in omega (arith, one-le-mul least least)
+    let start = c .before in omega (arith, some-cell (start .args .side) (start .pre .0))
 
 mul-first-2 : tie.Need-mul-first-2
 mul-first-2 c =
@@ -39,7 +39,7 @@ mul-inner c =
 
 rem-inner : tie.Need-rem-inner
 rem-inner c =
-    let least = c .before .pre .0 .least in omega (arith, one-le-mul least least)
+    let start = c .before in omega (arith, some-cell (start .args .side) (start .pre .0))
 
 cast-half : tie.Need-cast-half
 cast-half c =

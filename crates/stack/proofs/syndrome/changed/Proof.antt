@@ -1,10 +1,10 @@
 -- `stack::syndrome::changed` meets its contract: by the layer of its vertex. Assumes nothing.
-use native.Mathlib.Nat.{one-le-mul}
 use native.Mathlib.Omega.{arith}
 use borrow.Author.Needs.{needs}
 use denote.Ref.{now}
 use lib.ListN.{length}
 use Rattle.torus.proofs.Numbering.{square-limit}
+use Rattle.stack.proofs.Numbering.{some-cell}
 use Rattle.stack.proofs.Changes.{first-layer-byte, later-layer-byte}
 use Rattle.stack.proofs.syndrome.changed.Statement.{statement}
 use Rattle.stack.proofs.syndrome.changed.Tie as tie
@@ -35,9 +35,8 @@ returns-2 : tie.Need-returns-2
 returns-2 c =
     let start = c .before .before .before .before in
     let a = start .args in
-    let least = start .pre .0 .least in
     later-layer-byte (a .side) (length (now (a .readings))) (a .v .0) (now (a .readings)) (start .pre .1) (start .pre .2)
-    (one-le-mul least least) (c .before .before .if1 .left)
+    (some-cell (a .side) (start .pre .0)) (c .before .before .if1 .left)
 
 pub changed-spec : {M : Type 1} → statement M
 changed-spec =
