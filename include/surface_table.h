@@ -39,7 +39,7 @@ extern "C" {
 
 /* Raised by one whenever a call changes: its parameters, its tests or its answers, or a call more or
  * less. Programs and library must be built from one version; nothing else keeps them together. */
-#define SURFACE_VERSION 5
+#define SURFACE_VERSION 6
 
 /* The largest number of vertices and of edges of a board, and of bytes of a text. */
 #define SURFACE_VERTICES 1024
@@ -65,9 +65,9 @@ static inline uint32_t surface_second(uint64_t returned) { return (uint32_t)(ret
 
 /* The refusal's numbers, each with its place. A call that refuses has written nothing. Of all the
  * rules that are broken, the one that the call tests first is returned, at its smallest place. Calls
- * test in the order of the numbers, but for these: 16 and 17 come before 10, 12 and 14, surface_torus
- * tests 11 before 3, surface_planar 18 before 3, and surface_stack 11 and 15 before 3 and 7.
- * Number 5 is not in use. */
+ * test in the order of the numbers, but for these: 16 and 17 come before 10, 12 and 14, and a call that
+ * is lent a side tests it first, surface_faces, surface_torus and surface_stack by 11 and
+ * surface_planar by 18; surface_stack tests 15 next. Number 5 is not in use. */
 enum surface_refusal_number {
     SURFACE_NOT_REFUSED = 0,
     SURFACE_REFUSED_VERTEX_COUNT = 1,    /* place 0 */
@@ -78,9 +78,9 @@ enum surface_refusal_number {
     SURFACE_REFUSED_SYNDROME_BYTE = 7,   /* the vertex; in surface_stack that of a reading byte */
     SURFACE_REFUSED_LOSS_BYTE = 8,       /* the edge */
     SURFACE_REFUSED_HANDED_BYTE = 9,     /* the edge */
-    SURFACE_REFUSED_NO_CORRECTION = 10,  /* the vertex; surface_decode, surface_decode_rounds and
-                                            surface_verdict alone give it, where nothing else is
-                                            refused */
+    SURFACE_REFUSED_NO_CORRECTION = 10,  /* the vertex; surface_decode, surface_decode_rounds,
+                                            surface_verdict and surface_faces alone give it, where
+                                            nothing else is refused */
     SURFACE_REFUSED_TORUS_SIDE = 11,     /* the side */
     SURFACE_REFUSED_TEXT_LENGTH = 12,    /* place 0 */
     SURFACE_REFUSED_MALFORMED_LINE = 13, /* the line, from 1; the first such */
@@ -124,6 +124,7 @@ static inline const char *surface_refusal_text(unsigned number)
 #define SURFACE_STACK_DECODE 57344
 #define SURFACE_STACK_DECODE_ROUNDS 57344
 #define SURFACE_STACK_VERDICT 65536
+#define SURFACE_STACK_FACES 81920
 #define SURFACE_STACK_DISTANCE 69632
 #define SURFACE_STACK_TORUS 8192
 #define SURFACE_STACK_PLANAR 8192
@@ -160,7 +161,7 @@ uint64_t surface_decode_rounds(size_t vertices,
                                uint8_t *support, size_t support_count,
                                uint8_t *correction, size_t correction_count);
 
-/* What surface_verdict's first value says of the handed-in set. */
+/* What the first value of surface_verdict and of surface_faces says of the handed-in set. */
 enum surface_verdict_value {
     SURFACE_OFF = 1,   /* its syndrome differs; second value: the smallest vertex where it does, which
                           is not open */
@@ -176,6 +177,23 @@ uint64_t surface_verdict(size_t vertices,
                          const uint8_t *syndrome, size_t syndrome_count,
                          const uint8_t *loss, size_t loss_count,
                          const uint8_t *handed, size_t handed_count);
+
+/* Compares the handed-in set with the correction on the torus of a side, 1 to 32, and answers as
+ * surface_verdict does on the board that surface_torus fills. Where it answers SURFACE_SAME it fills
+ * `faces` as evidence, else it writes nothing. There are exactly side² bytes of syndrome and of faces,
+ * and 2 side² of loss and of the handed-in set.
+ *
+ * Face r side + c lies between rows r and r + 1 and columns c and c + 1, counted modulo side. Of a
+ * vertex v edge 2v leads to the next column, and edge 2v + 1 to the next row; so the face has edges 2v
+ * and 2v + 1 of vertex (r, c), 2v of (r + 1, c), and 2v + 1 of (r, c + 1). Its byte is 1 where it is
+ * marked, else 0. The marked faces, an edge of two of them cancelling, make up the handed-in set and
+ * the correction together. All other faces would make them up as well; those without face 0 are
+ * marked. No faces make up sets that wind together. */
+uint64_t surface_faces(uint32_t side,
+                       const uint8_t *syndrome, size_t syndrome_count,
+                       const uint8_t *loss, size_t loss_count,
+                       const uint8_t *handed, size_t handed_count,
+                       uint8_t *faces, size_t faces_count);
 
 /* Fills `shown` with a winding loop of fewest edges, a byte for each edge; all 0 where no loop winds.
  * First value: its number of edges. Second: 1. Where no loop winds both are 0. */

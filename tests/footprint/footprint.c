@@ -27,7 +27,7 @@ static uint32_t side, rounds;
 static uint16_t ends[SURFACE_ENDS];
 static uint8_t marks[SURFACE_MARKS], open_bytes[SURFACE_OPEN], syndrome[SURFACE_SYNDROME], loss[SURFACE_LOSS], handed[SURFACE_EDGES];
 static uint8_t readings[SURFACE_VERTICES];
-static uint8_t support[SURFACE_EDGES], correction[SURFACE_EDGES], shown[SURFACE_EDGES], text[SURFACE_TEXT];
+static uint8_t support[SURFACE_EDGES], correction[SURFACE_EDGES], shown[SURFACE_EDGES], face_bytes[SURFACE_VERTICES], text[SURFACE_TEXT];
 
 static uint64_t returned;
 
@@ -47,6 +47,8 @@ static void verdict(void)
 {
     returned = surface_verdict(vertices, ends, 2 * edges, marks, edges, open_bytes, vertices, syndrome, vertices, loss, edges, handed, edges);
 }
+
+static void faces(void) { returned = surface_faces(side, syndrome, vertices, loss, edges, handed, edges, face_bytes, vertices); }
 
 static void distance(void) { returned = surface_distance(vertices, ends, 2 * edges, marks, edges, open_bytes, vertices, shown, edges); }
 
@@ -79,12 +81,13 @@ struct call {
     bool answered, refused;
 };
 
-enum { DECODE, DECODE_ROUNDS, VERDICT, DISTANCE, TORUS, PLANAR, TORUS_STACK, READ, WRITE, CALLS };
+enum { DECODE, DECODE_ROUNDS, VERDICT, FACES, DISTANCE, TORUS, PLANAR, TORUS_STACK, READ, WRITE, CALLS };
 
 static struct call calls[CALLS] = {
     {"surface_decode", decode, SURFACE_STACK_DECODE, 0, false, false},
     {"surface_decode_rounds", decode_rounds, SURFACE_STACK_DECODE_ROUNDS, 0, false, false},
     {"surface_verdict", verdict, SURFACE_STACK_VERDICT, 0, false, false},
+    {"surface_faces", faces, SURFACE_STACK_FACES, 0, false, false},
     {"surface_distance", distance, SURFACE_STACK_DISTANCE, 0, false, false},
     {"surface_torus", torus, SURFACE_STACK_TORUS, 0, false, false},
     {"surface_planar", planar, SURFACE_STACK_PLANAR, 0, false, false},
@@ -152,6 +155,36 @@ static void light_and_lose(void)
         loss[edges - 1 - e] = e % 5 == 0;
 }
 
+/* The verdict with faces, which must be this one. */
+static void measure_faces_as(uint32_t verdict)
+{
+    measure(FACES);
+    if (surface_refusal(returned) != SURFACE_NOT_REFUSED || surface_first(returned) != verdict)
+        abort();
+}
+
+/* The verdict with faces on the torus at hand: on no edges; same, on the correction; wound, on the first row too. Then a handed-in byte above
+ * 1, an odd number of lit vertices, and a buffer too long. */
+static void measure_faces(void)
+{
+    measure(FACES);
+    decode();
+    memcpy(handed, correction, edges);
+    measure_faces_as(SURFACE_SAME);
+    for (size_t c = 0; c < side; c++)
+        handed[2 * c] ^= 1;
+    measure_faces_as(SURFACE_WOUND);
+    handed[edges - 1] = 2;
+    measure(FACES);
+    memset(handed, 0, sizeof handed);
+    syndrome[vertices - 1] ^= 1;
+    measure(FACES);
+    syndrome[vertices - 1] ^= 1;
+    edges++;
+    measure(FACES);
+    edges--;
+}
+
 /* The torus of the largest side. */
 static void largest_torus(void)
 {
@@ -161,8 +194,10 @@ static void largest_torus(void)
     measure(TORUS);
     light_and_lose();
     measure_board();
+    measure_faces();
     side = 33;
     measure(TORUS);
+    measure(FACES);
 }
 
 /* The planar board of the largest side, with an odd number of lit vertices. Then one of the open vertices is lit, and the last has an open
@@ -274,6 +309,7 @@ static void smallest(void)
     measure(TORUS);
     light_and_lose();
     measure_board();
+    measure_faces();
     edges = 0;
     memset(syndrome, 0, sizeof syndrome);
     measure_board();

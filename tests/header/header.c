@@ -43,7 +43,7 @@ int main(void)
 
     hold(SURFACE_ENDS == 8192 && SURFACE_MARKS == 4096 && SURFACE_OPEN == 1024, "the reader's buffers of a board");
     hold(SURFACE_SYNDROME == 1024 && SURFACE_LOSS == 4096, "the reader's other buffers");
-    hold(SURFACE_VERSION >= 5, "the version");
+    hold(SURFACE_VERSION >= 6, "the version");
     hold_sentences();
     return failures == 0 ? 0 : 1;
 }

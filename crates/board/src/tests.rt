@@ -31,7 +31,7 @@ fn check_edges(vertices: usize, ends: &[u16], marks: &[u8]) -> Check
 }
 
 // The tests 7 and 8, once the lengths have passed. They ask nothing of the board.
-fn check_bytes(syndrome: &[u8], loss: &[u8]) -> Check
+pub fn check_bytes(syndrome: &[u8], loss: &[u8]) -> Check
     requires { ⌜ (length (now syndrome) ≤ vertexLimit) × (length (now loss) ≤ edgeLimit) ⌝ }
     ensures { λ r. ⌜ testOf r ≡ refusalOf (byteRules (before syndrome) (before loss)) ⌝ }
 {

@@ -5,6 +5,7 @@ use mathlib.Core.Bool.{Bool, true, false}
 use native.Mathlib.Nat.{le-refl}
 use native.Mathlib.Omega.{arith}
 use borrow.Author.Tests.{eqb-true, eqb-false}
+use lib.Bits.{bitXor}
 use lib.Dec.{eqb}
 use Rattle.model.specs.Sums.{_⊕_, bit}
 
@@ -27,3 +28,10 @@ byte-bit x h = go (eqb x 1) refl
 pub bit-flip : (b : Bool) → 1 - bit b ≡ bit (b ⊕ true)
 bit-flip true = refl
 bit-flip false = refl
+
+-- the exclusive or of two bytes that are 0 or 1
+pub xor-bit : (a b : Bool) → bitXor (bit a) (bit b) ≡ bit (a ⊕ b)
+xor-bit true true = refl
+xor-bit true false = refl
+xor-bit false true = refl
+xor-bit false false = refl

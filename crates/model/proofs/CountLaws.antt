@@ -1,16 +1,17 @@
 -- Counts of the numbers below n that are in a set. Assumes nothing.
-use Prim.Native.Nat.{ℕ, zero, suc, _+_, _%_, _≤_, _<_}
+use Prim.Native.Nat.{ℕ, zero, suc, _+_, _*_, _%_, _≤_, _<_}
 use mathlib.Core.Path.{_≡_, refl, sym, ap, ap₂, _∙_}
-use mathlib.Core.Bool.{Bool, true, false, _||_, or-true, or-false}
+use mathlib.Core.Bool.{Bool, true, false, _&&_, _||_, or-true, or-false}
 use mathlib.Core.Logic.{_≢_}
 use native.Mathlib.Nat.{not-suc-le-zero, le-refl, add-zero, add-suc}
-use native.Mathlib.Decide.{decLt}
+use native.Mathlib.Decide.{decLt, ℕ-discrete}
 use native.Mathlib.Numerals.{add-one}
 use native.Mathlib.Omega.{arith}
-use borrow.Author.Tests.{eqb-true, eqb-false, eq-eqb, ne-eqb, lt-ltb}
+use borrow.Author.Tests.{eqb-true, eqb-false, eq-eqb, ne-eqb, lt-ltb, le-ltb}
 use lib.Dec.{eqb, ltb}
 use Rattle.model.specs.Sums.{Set, _⊕_, bit, countUpTo, oddUpTo, someUpTo}
-use Rattle.model.proofs.SumLaws.{below-suc, count-bound, count-cong, count-none}
+use Rattle.model.proofs.Xor.{and-left}
+use Rattle.model.proofs.SumLaws.{Some, below-suc, count-bound, count-cong, count-mono, count-none}
 use Rattle.model.proofs.Bits.{bit-bound}
 
 -- one number more
@@ -141,3 +142,57 @@ count-parity (suc n) f = go (f n) (oddUpTo n f) (count-parity n f)
     go true false p = eq-eqb ((countUpTo n f + 1) % 2) 1 (omega (arith, eqb-false (countUpTo n f % 2) 1 p))
     go false true p = eq-eqb ((countUpTo n f + 0) % 2) 1 (omega (arith, eqb-true (countUpTo n f % 2) 1 p))
     go false false p = ne-eqb ((countUpTo n f + 0) % 2) 1 (λ q. omega (arith, eqb-false (countUpTo n f % 2) 1 p))
+
+-- the first k numbers
+pub count-front : (n k : ℕ) → k ≤ n → countUpTo n (λ i. ltb i k) ≡ k
+unfolding countUpTo
+count-front zero k h = omega arith
+count-front (suc n) k h =
+    elim (decLt n k) [
+      | yes l ↦
+          let all : k ≡ suc n = omega arith in
+          rw all (count-all (suc n) (λ i. ltb i (suc n)) (λ i m. lt-ltb i (suc n) m))
+      | no l ↦ rw (le-ltb n k (omega arith)) (omega (arith, count-front n k (omega arith)))
+    ]
+
+-- the even numbers, then the odd ones
+pub count-halves : (n : ℕ) (f : Set) → countUpTo (2 * n) f ≡ countUpTo n (λ i. f (2 * i)) + countUpTo n (λ i. f (2 * i + 1))
+unfolding countUpTo
+count-halves zero f = refl
+count-halves (suc n) f =
+    let two-more : 2 * suc n ≡ 2 * n + 1 + 1 = omega arith in
+    rw two-more (omega (arith, count-next (2 * n + 1) f, count-next (2 * n) f, count-halves n f))
+
+-- a set with a member of each of the kinds 0 to k - 1 has at least k members
+module _ (n : ℕ) (D : Set) (kind : ℕ → ℕ) where
+  of-earlier-kinds : (k : ℕ) → ((c : ℕ) → c < k → Some n (λ i. D i && eqb (kind i) c)) → k ≤ countUpTo n (λ i. D i && ltb (kind i) k)
+  of-earlier-kinds zero found = omega arith
+  of-earlier-kinds (suc k) found =
+      let x = found k (le-refl _) in
+      omega (
+        arith,
+        of-earlier-kinds k (λ c h. found c (omega arith)),
+        count-before (x .at) n (λ i. D i && eqb (kind i) k) (x .less) (x .holds),
+        count-parts n (λ i. D i && ltb (kind i) (suc k)) (λ i. D i && ltb (kind i) k) (λ i. D i && eqb (kind i) k)
+            (λ i h. apart (D i) (kind i)),
+      )
+    where
+      apart : (b : Bool) (c : ℕ) → bit (b && ltb c (suc k)) ≡ bit (b && ltb c k) + bit (b && eqb c k)
+      apart false c = omega arith
+      apart true c =
+          elim (ℕ-discrete c k) [
+            | yes q ↦ rw (lt-ltb c (suc k) (omega arith), le-ltb c k (omega arith), eq-eqb c k q) (omega arith)
+            | no q ↦ rw (ne-eqb c k q)
+                (elim (decLt c k) [
+                  | yes l ↦ rw (lt-ltb c (suc k) (omega arith), lt-ltb c k l) (omega arith)
+                  | no l ↦ rw (le-ltb c (suc k) (omega arith), le-ltb c k (omega arith)) (omega arith)
+                ])
+          ]
+
+  pub one-of-each : (k : ℕ) → ((c : ℕ) → c < k → Some n (λ i. D i && eqb (kind i) c)) → k ≤ countUpTo n D
+  one-of-each k found =
+      omega (
+        arith,
+        of-earlier-kinds k found,
+        count-mono n (λ i. D i && ltb (kind i) k) D (λ i h. and-left (D i) (ltb (kind i) k)),
+      )

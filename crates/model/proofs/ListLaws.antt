@@ -7,7 +7,7 @@ use native.Mathlib.Nat.{not-suc-le-zero, le-of-suc-le-suc}
 use native.Mathlib.Omega.{arith}
 use lib.ListN.{length, getD, set, take, replicate, length-replicate}
 use borrow.Author.Tests.{eqb-true, eqb-false}
-use lib.Seq.{ext-getD, getD-set-same, getD-set-other, length-take-le}
+use lib.Seq.{ext-getD, getD-set-same, getD-set-other}
 use lib.Dec.{eqb}
 use Rattle.model.specs.Sums.{Set, bit, values, ones, bytes}
 use Rattle.model.specs.Board.{ValidBytes}
@@ -68,6 +68,11 @@ getD-set {A} l i j a d h = go (eqb i j) refl
     go true p = rw (sym (eqb-true i j p)) (getD-set-same l i a d h)
     go false p = getD-set-other l i j a d (λ q. eqb-false i j p (sym q))
 
--- the front of an array of one value has its length
+-- the front of an array of one value is one of that value, and has its length
+pub front-replicate : (m n x : ℕ) → m ≤ n → take m (replicate n x) ≡ replicate m x
+front-replicate zero n x h = refl
+front-replicate (suc m) zero x h = absurd (not-suc-le-zero h)
+front-replicate (suc m) (suc n) x h = ap (λ l. x ∷ l) (front-replicate m n x (le-of-suc-le-suc h))
+
 pub front-long : (m n x : ℕ) → m ≤ n → length (take m (replicate n x)) ≡ m
-front-long m n x h = length-take-le m (replicate n x) (omega (arith, length-replicate n x))
+front-long m n x h = ap length (front-replicate m n x h) ∙ length-replicate m x

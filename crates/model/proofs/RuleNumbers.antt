@@ -1,10 +1,11 @@
--- The numbers of each call's rules, in the order in which they are tested. They rise in every call but four: the builders test the
--- side before the lengths, that of the stack the rounds too, and the writer tests the open bytes before the text. Assumes nothing.
+-- The numbers of each call's rules, in the order in which they are tested. They rise in every call but five: the builders and the
+-- verdict with faces test the side before the lengths, the stack's builder the rounds too, and the writer tests the open bytes before the
+-- text. Assumes nothing.
 use Prim.Native.Nat.{ℕ}
 use mathlib.Core.Path.{_≡_, refl}
 use mathlib.Core.List.{List, [], _∷_}
 use Rattle.model.specs.Board.{Board, Sheet}
-use Rattle.model.specs.Refusals.{decodeRules, verdictRules, distanceRules, torusRules, planarRules, stackRules}
+use Rattle.model.specs.Refusals.{decodeRules, verdictRules, distanceRules, torusRules, planarRules, stackRules, facesRules}
 use Rattle.model.specs.TextOutcomes.{Buffers, readRules, writeRules}
 use Rattle.model.specs.Precedence.{Numbered}
 
@@ -39,6 +40,11 @@ pub stack-numbers : (L R : ℕ) (readings ends marks syndrome : List ℕ)
     → Numbered (11 ∷ 15 ∷ 3 ∷ 7 ∷ []) (stackRules L R readings ends marks syndrome)
 unfolding stackRules
 stack-numbers L R readings ends marks syndrome = record { in-turn = (refl, (refl, (refl, (its-place 7, tt)))) }
+
+pub faces-numbers : (L : ℕ) (syndrome loss handed faces : List ℕ)
+    → Numbered (11 ∷ 3 ∷ 7 ∷ 8 ∷ 9 ∷ []) (facesRules L syndrome loss handed faces)
+unfolding facesRules
+faces-numbers L syndrome loss handed faces = record { in-turn = (refl, (refl, (its-place 7, (its-place 8, (its-place 9, tt))))) }
 
 pub read-numbers : (text : List ℕ) (old : Buffers) → Numbered (3 ∷ 12 ∷ []) (readRules text old)
 unfolding readRules

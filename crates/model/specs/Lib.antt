@@ -17,13 +17,16 @@ pub mod Torus
 pub mod Planar
 pub mod Stack
 pub mod Histories
+pub mod Faces
 pub mod Refusals
 pub mod Precedence
 pub mod Outcomes
 pub mod RoundsOutcomes
 pub mod StackOutcomes
+pub mod FacesOutcomes
 pub mod MarkedSheets
 pub mod StackSheets
+pub mod FaceSheets
 pub mod Text
 pub mod LineNumbers
 pub mod TextOutcomes

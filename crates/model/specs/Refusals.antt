@@ -1,4 +1,4 @@
--- Document 01, "Numbers and places", and document 02, K1, K3 and K5: the number and the place of each refusal, and the rules of each call in
+-- Document 01, "Numbers and places", and document 02, K1, K3, K5 and K9: the number and the place of each refusal, and the rules of each call in
 -- the order of their tests. No refusal has number 5, which was that of equal ends.
 -- Assumes nothing.
 use Prim.Native.Nat.{ℕ, _*_, _/_, _%_}
@@ -274,3 +274,21 @@ stackRules L R readings ends marks syndrome = layerRules L R ++ readingRules L R
 unfoldable pub stackRefusal : ℕ → ℕ → List ℕ → List ℕ → List ℕ → List ℕ → Test
 unfolding stackRules
 stackRefusal L R readings ends marks syndrome = refusalOf (stackRules L R readings ends marks syndrome)
+
+-- a byte for each of the L² vertices and faces, and for each of the 2L² edges
+abbrev pub facesSized : ℕ → List ℕ → List ℕ → List ℕ → List ℕ → Bool
+facesSized L syndrome loss handed faces =
+    (sized syndrome (L * L) && sized faces (L * L)) && (sized loss (2 * (L * L)) && sized handed (2 * (L * L)))
+
+-- The verdict with faces is lent a side in the place of a board, syndrome, loss and a handed-in set for that torus, and a buffer for a byte
+-- of each face. The side comes first, and the lengths are held to it. It tests for number 10 as the verdict does.
+abbrev pub torusByteRules : ℕ → List ℕ → List ℕ → List ℕ → List ℕ → List Rule
+torusByteRules L syndrome loss handed faces =
+    lengthRule (facesSized L syndrome loss handed faces) ∷ syndromeRule syndrome ∷ lossRule loss ∷ handedRule handed ∷ []
+
+unfoldable pub facesRules : ℕ → List ℕ → List ℕ → List ℕ → List ℕ → List Rule
+facesRules L syndrome loss handed faces = sideRule L ∷ torusByteRules L syndrome loss handed faces
+
+unfoldable pub facesRefusal : ℕ → List ℕ → List ℕ → List ℕ → List ℕ → Test
+unfolding facesRules
+facesRefusal L syndrome loss handed faces = refusalOf (facesRules L syndrome loss handed faces)

@@ -17,6 +17,9 @@ pub const LEAST_SIDE: usize = 1;
 
 pub const LARGEST_SIDE: usize = 32;
 
+// The edges of the torus with the largest side: two for each vertex, of which it has as many as a board can have.
+pub const TORUS_EDGES: usize = 2 * VERTICES;
+
 // The smallest and the largest side of a planar board that is built.
 pub const LEAST_PLANAR: usize = 2;
 

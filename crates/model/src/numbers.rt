@@ -1,4 +1,4 @@
-// Three kinds of number. Each is a type of its own, so that none can stand where another is meant.
+// Four kinds of number. Each is a type of its own, so that none can stand where another is meant.
 ghost use mathlib.Core.Path.{_≡_};
 ghost use lib.Dec.{eqb};
 
@@ -7,6 +7,9 @@ pub struct Vertex(pub u16);
 
 // An edge number, from 0 in list order.
 pub struct Edge(pub u16);
+
+// A face number of a torus, from 0.
+pub struct Face(pub u16);
 
 // A count of half-edges: the support of an edge.
 pub struct HalfEdges(pub u8);

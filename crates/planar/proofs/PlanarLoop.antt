@@ -9,14 +9,14 @@ use native.Mathlib.Numerals.{add-one}
 use native.Mathlib.Omega.{arith}
 use borrow.Author.Tests.{lt-ltb, le-ltb, eq-eqb, ne-eqb}
 use lib.Dec.{eqb, ltb}
-use Rattle.model.specs.Sums.{Set, _⊕_, oddUpTo, countUpTo}
+use Rattle.model.specs.Sums.{Set, _⊕_, oddUpTo}
 use Rattle.model.specs.Board.{edges, firstEnd, secondEnd, isOpen}
 use Rattle.model.specs.Syndrome.{meets, oddEnd, syndrome}
 use Rattle.model.specs.Winding.{crossesA}
 use Rattle.model.specs.Planar.{planarAt, planar}
 use Rattle.model.proofs.Xor.{xor-false, xor-self}
 use Rattle.model.proofs.SumLaws.{odd-cong}
-use Rattle.model.proofs.CountLaws.{count-all}
+use Rattle.model.proofs.CountLaws.{count-front}
 use Rattle.theory.proofs.OddMembers.{odd-one}
 use Rattle.theory.proofs.Totals.{xor-through}
 use Rattle.theory.proofs.Syndromes.{shut-syndrome, open-syndrome}
@@ -24,7 +24,7 @@ use Rattle.theory.proofs.CrossedLines.{lineA, Closed, crossesOddly, marked-wind
 use Rattle.theory.proofs.Distances.{LoopOf}
 use Rattle.planar.proofs.PlanarRows.{edge-count, crosses-A, open-at, along-from, along-to}
 
--- parity and count of what is asked of the first k numbers only
+-- parity of what is asked of the first k numbers only
 odd-front : (n k : ℕ) (f : Set) → k ≤ n → oddUpTo n (λ i. ltb i k && f i) ≡ oddUpTo k f
 unfolding oddUpTo
 odd-front zero k f h = let z : k ≡ 0 = omega arith in rw z
@@ -34,17 +34,6 @@ odd-front (suc n) k f h =
           let all : k ≡ suc n = omega arith in
           rw all (odd-cong (suc n) (λ i. ltb i (suc n) && f i) f (λ i m. rw (lt-ltb i (suc n) m)))
       | no l ↦ rw (le-ltb n k (omega arith)) (xor-false _ ∙ odd-front n k f (omega arith))
-    ]
-
-count-front : (n k : ℕ) → k ≤ n → countUpTo n (λ i. ltb i k) ≡ k
-unfolding countUpTo
-count-front zero k h = omega arith
-count-front (suc n) k h =
-    elim (decLt n k) [
-      | yes l ↦
-          let all : k ≡ suc n = omega arith in
-          rw all (count-all (suc n) (λ i. ltb i (suc n)) (λ i m. lt-ltb i (suc n) m))
-      | no l ↦ rw (le-ltb n k (omega arith)) (omega (arith, count-front n k (omega arith)))
     ]
 
 -- what is joined end to end has two odd ends

@@ -2,7 +2,6 @@
 -- Assumes nothing.
 use Prim.Native.Nat.{ℕ, zero, suc, _+_, _*_, _-_, _/_, _%_, _≤_, _<_}
 use mathlib.Core.Path.{_≡_, refl, ap, ap₂, _∙_}
-use mathlib.Core.Bool.{Bool, true, false}
 use mathlib.Core.List.{List}
 use native.Mathlib.Nat.{div-eq-of-lt, mod-eq-of-lt, div-add-mod', le-div-iff-mul-le, suc-mul}
 use native.Mathlib.Omega.{arith}
@@ -11,14 +10,7 @@ use lib.ListN.{getD}
 use Rattle.model.specs.Sums.{_⊕_, bit, ones}
 use Rattle.model.specs.Board.{ValidBytes}
 use Rattle.model.specs.Stack.{layerVertices, layerSyndrome}
-use Rattle.model.proofs.Bits.{byte-bit}
-
--- the exclusive or of two bytes that are 0 or 1
-xor-bit : (a b : Bool) → bitXor (bit a) (bit b) ≡ bit (a ⊕ b)
-xor-bit true true = refl
-xor-bit true false = refl
-xor-bit false true = refl
-xor-bit false false = refl
+use Rattle.model.proofs.Bits.{byte-bit, xor-bit}
 
 module _ (L m u : ℕ) (readings : List ℕ) (valid : ValidBytes m readings) (h : u < m) where
   pub first-layer-byte : u < layerVertices L → getD readings u 0 ≡ bit (layerSyndrome L readings (u / layerVertices L) (u % layerVertices L))

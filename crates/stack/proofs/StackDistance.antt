@@ -1,5 +1,6 @@
 -- The distance of a stack is that of its torus: the shadow of a winding loop of the stack winds on the torus and has no more edges, and a
--- winding loop of the torus, laid into layer 0, winds on the stack. Assumes nothing.
+-- winding loop of the torus, laid into layer 0, winds on the stack. So the distance is the side, whatever the number of layers.
+-- Assumes nothing.
 use Prim.Native.Nat.{ℕ}
 use mathlib.Core.Path.{_≡_, refl, sym, _∙_}
 use mathlib.Core.Bool.{false≢true}
@@ -13,6 +14,7 @@ use Rattle.model.specs.Torus.{torus}
 use Rattle.model.specs.Stack.{stack}
 use Rattle.model.proofs.Xor.{not-true-false}
 use Rattle.theory.proofs.Distances.{Least, fewest-least, fewest-none, least-fewest, none-fewest}
+use Rattle.torus.proofs.TorusDistance.{torus-distance}
 use Rattle.stack.specs.Layers.{StackWithin}
 use Rattle.stack.proofs.LoopShadows.{shadow, shadow-size, shadow-winds}
 use Rattle.stack.proofs.LayerLoops.{inLayerZero, layer-size, layer-winds}
@@ -50,3 +52,7 @@ stack-distance L R w = go (fewest (torus L)) refl
         not-true-false (winds (stack L R) D)
         (λ q. false≢true (sym (fewest-none (torus L) p (shadow L R D)) ∙ shadow-winds L R w D q)))
     go (some d) p = least-fewest (stack L R) d (stack-least L R w d (fewest-least (torus L) d p))
+
+-- and that of the torus is its side
+pub stack-distance-is-side : (L R : ℕ) → StackWithin L R → fewest (stack L R) ≡ some L
+stack-distance-is-side L R w = stack-distance L R w ∙ torus-distance L (w .side .least)

@@ -11,7 +11,7 @@ use Rattle.model.specs.declared.refusal.Refusal.the-variants.{VertexCount, EndC
 use Rattle.model.specs.Sums.{ones}
 use Rattle.model.specs.Board.{Board, Sheet, edges, vertexLimit, edgeLimit}
 use Rattle.model.specs.Decoding.{smallestOdd}
-use Rattle.model.specs.Refusals.{Test, tested, refusalOf, sized, edgesOf, outside, above, litOpen, boardSized, countRules, edgeRules, boardRules, byteRules, plainRules, openRule, openRules, sheetRules, sideRule, planarSideRule, lengthRule, handedRule, syndromeRule, decodeRefusal, verdictRefusal, distanceRefusal, torusRefusal, planarRefusal, stackSized, layerRules, stackRefusal, oddPartTest, noneAt}
+use Rattle.model.specs.Refusals.{Test, tested, refusalOf, sized, edgesOf, outside, above, litOpen, boardSized, countRules, edgeRules, boardRules, byteRules, plainRules, openRule, openRules, sheetRules, sideRule, planarSideRule, lengthRule, handedRule, syndromeRule, decodeRefusal, verdictRefusal, distanceRefusal, torusRefusal, planarRefusal, stackSized, layerRules, stackRefusal, lossRule, facesSized, facesRefusal, oddPartTest, noneAt}
 use Rattle.model.specs.Torus.{leastSide, largestSide}
 use Rattle.model.specs.Planar.{leastPlanar, largestPlanar, planarVertices, planarEdges}
 use Rattle.model.specs.Stack.{stackVertices}
@@ -26,6 +26,8 @@ use Rattle.board.proofs.Failures.{each-passes}
 use Rattle.board.proofs.Passing.{unless-passes}
 use Rattle.stack.proofs.LayerTests.{passed-layers}
 use Rattle.stack.proofs.StackTests.{stack-tests, readings-long}
+use Rattle.torus.proofs.SideRefused.{passed-within}
+use Rattle.faces.proofs.FaceTests.{bytes-allowed, handed-allowed as handed-few}
 use Rattle.text.proofs.ReadOutcome.{fit}
 use Rattle.text.proofs.WriteOutcome.{textRules, write-tests}
 
@@ -164,6 +166,33 @@ stack-side side rounds readings ends marks syndrome h =
     let fit = unless-passes fits BufferLength (each-passes (lengthRule fits ∷ []) q .0) in
     let few = passed-layers side rounds p .vertex-limit in
     readings-small readings (omega (arith, readings-long side rounds readings ends marks syndrome fit)))))
+
+-- of the verdict with faces the side too; a byte is one of few, once the lengths have passed
+pub faces-side : (side : ℕ) (syndrome loss handed faces : List ℕ) → side < 2 ^ 32
+    → PlaceBelow (2 ^ 56) (facesRefusal side syndrome loss handed faces)
+unfolding facesRefusal
+faces-side side syndrome loss handed faces h =
+    let fits = facesSized side syndrome loss handed faces in
+    let front = sideRule side ∷ lengthRule fits ∷ [] in
+    rw (refusal-append front (syndromeRule syndrome ∷ lossRule loss ∷ handedRule handed ∷ []))
+    (else-below _ _
+    (rules-below front (
+      unless-below (leb leastSide side && leb side largestSide) (TorusSide side) (omega arith),
+      (unless-below fits BufferLength (omega arith), tt),
+    ))
+    (λ p.
+    let e = each-passes front p in
+    let within = passed-within side (e .0) in
+    let fit = unless-passes fits BufferLength (e .1 .0) in
+    let few = bytes-allowed side syndrome loss handed faces fit within in
+    let few-handed = handed-few side syndrome loss handed faces fit within in
+    rules-below (syndromeRule syndrome ∷ lossRule loss ∷ handedRule handed ∷ []) (
+      first-below (length syndrome) (above 1 syndrome) (λ v. SyndromeByte (record { 0 = v })) (λ v l. omega (arith, few .0)),
+      (
+        first-below (length loss) (above 1 loss) (λ e. LossByte (record { 0 = e })) (λ e l. omega (arith, few .1)),
+        (first-below (length handed) (above 1 handed) (λ e. HandedByte (record { 0 = e })) (λ e l. omega (arith, few-handed)), tt),
+      ),
+    )))
 
 pub read-small : (text : List ℕ) (old : Buffers) → Small (readRefusal text old)
 unfolding readRefusal

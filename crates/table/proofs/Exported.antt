@@ -13,12 +13,13 @@ use Rattle.model.specs.declared.answers.Written.{Written}
 use Rattle.model.specs.Board.{Board, Sheet}
 use Rattle.model.specs.Outcomes.{decodeAnswer, Decodes, DecodesSoundly, verdictAnswer, Judges, JudgesSoundly}
 use Rattle.model.specs.Outcomes.{distanceAnswer, Measures, torusAnswer, Builds, planarAnswer, BuildsPlanar}
+use Rattle.model.specs.FacesOutcomes.{facesAnswer, ShowsFaces, FacesSoundly}
 use Rattle.model.specs.StackOutcomes.{stackAnswer, BuildsStack, StacksSoundly}
 use Rattle.model.specs.RoundsOutcomes.{roundsAnswer, DecodesInRounds, RoundsSoundly}
 use Rattle.model.specs.TextOutcomes.{Buffers, counts, readOutcome, Reads, writeAnswer, Writes}
 use Rattle.model.specs.Packing.{packedDecoded, packedRounds, packedVerdict, packedDistance, packedBuilt, packedReading, packedWritten}
 use Rattle.model.specs.Packing.{unpackedDecoded, unpackedRounds, unpackedVerdict, unpackedDistance, unpackedBuilt, unpackedReading, unpackedWritten}
-use Rattle.table.proofs.Returned.{decode-returned, rounds-returned, verdict-returned, distance-returned, torus-returned, planar-returned, stack-returned, read-returned, write-returned}
+use Rattle.table.proofs.Returned.{decode-returned, rounds-returned, verdict-returned, distance-returned, torus-returned, planar-returned, stack-returned, faces-returned, read-returned, write-returned}
 
 exported : {A : Type 0} (pack : A → ℕ) (unpack : ℕ → A) (P : A → Type 0) {a b : A} {r : ℕ} → unpack (pack b) ≡ b → a ≡ b → r ≡ pack a → P a
     → (r ≡ pack b) × P (unpack r)
@@ -72,6 +73,15 @@ stack-exported {side} {rounds} {readings} {ends} {marks} {syndrome} {a} {e} {m} 
     exported packedBuilt unpackedBuilt
     (λ b. BuildsStack side rounds readings ends marks syndrome b e m s × StacksSoundly side rounds readings b e m s)
     (stack-returned side rounds readings ends marks syndrome h) (w .0 .result) p w
+
+pub faces-exported : {side : ℕ} {syndrome loss handed faces : List ℕ} {a : Verdict} {f : List ℕ} {r : ℕ} → side < 2 ^ 32 → r ≡ packedVerdict a
+    → ShowsFaces side syndrome loss handed faces a f × FacesSoundly side syndrome loss handed faces a f
+    → (r ≡ packedVerdict (facesAnswer side syndrome loss handed faces))
+    × (ShowsFaces side syndrome loss handed faces (unpackedVerdict r) f × FacesSoundly side syndrome loss handed faces (unpackedVerdict r) f)
+faces-exported {side} {syndrome} {loss} {handed} {faces} {a} {f} h p w =
+    exported packedVerdict unpackedVerdict
+    (λ v. ShowsFaces side syndrome loss handed faces v f × FacesSoundly side syndrome loss handed faces v f)
+    (faces-returned side syndrome loss handed faces h) (w .0 .result) p w
 
 pub read-exported : {text : List ℕ} {old : Buffers} {a : Reading} {new : Buffers} {r : ℕ} → r ≡ packedReading a → Reads text old a new
     → (r ≡ packedReading (counts (readOutcome text old))) × Reads text old (unpackedReading r) new

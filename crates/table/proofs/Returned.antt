@@ -28,10 +28,11 @@ use Rattle.model.specs.Distance.{fewest}
 use Rattle.model.specs.Torus.{leastSide, largestSide}
 use Rattle.model.specs.Planar.{leastPlanar, largestPlanar, planarVertices, planarEdges}
 use Rattle.model.specs.Stack.{stackVertices}
-use Rattle.model.specs.Refusals.{placeOf, Test, sized, sideRule, planarSideRule, lengthRule, oddPartTest, decodeRefusal, verdictRefusal, distanceRefusal, torusRefusal, planarRefusal, stackRefusal}
+use Rattle.model.specs.Refusals.{placeOf, Test, sized, sideRule, planarSideRule, lengthRule, oddPartTest, decodeRefusal, verdictRefusal, distanceRefusal, torusRefusal, planarRefusal, stackRefusal, facesRefusal}
 use Rattle.model.specs.Outcomes.{answer, keyOrNone, decodeAnswer, judgedOrNone, verdictAnswer, distanceOf, distanceAnswer, torusAnswer, planarAnswer}
 use Rattle.model.specs.RoundsOutcomes.{roundsOrNone, roundsAnswer}
 use Rattle.model.specs.StackOutcomes.{stackAnswer}
+use Rattle.model.specs.FacesOutcomes.{torusSheet, facesAnswer}
 use Rattle.model.specs.Text.{Read, complete, refused, textOf, readText}
 use Rattle.model.specs.TextOutcomes.{Buffers, textLimit, readRefusal, readOutcome, counts, writeRefusal, writeAnswer}
 use Rattle.model.specs.Packing.{packedDecoded, packedRounds, packedVerdict, packedDistance, packedBuilt, packedReading, packedWritten, unpackedDecoded, unpackedRounds, verdictWith, unpackedVerdict, distanceWith, unpackedDistance, unpackedBuilt, unpackedReading, unpackedWritten}
@@ -48,7 +49,9 @@ use Rattle.text.proofs.TextCalls.{read-within, write-passed}
 use Rattle.torus.proofs.Numbering.{square-limit}
 use Rattle.planar.proofs.Numbering.{vertices-limit}
 use Rattle.stack.proofs.StackPasses.{stack-passes}
-use Rattle.table.proofs.CallPlaces.{roomy, decode-small, verdict-small, odd-small, distance-small, torus-side, planar-side, stack-side, read-small, write-small}
+use Rattle.torus.proofs.TorusValid.{torus-valid}
+use Rattle.faces.proofs.FaceTests.{faces-passes}
+use Rattle.table.proofs.CallPlaces.{roomy, decode-small, verdict-small, odd-small, distance-small, torus-side, planar-side, stack-side, faces-side, read-small, write-small}
 
 -- An answer comes back where the refusals of its test and what follows where it passes do.
 back : {A : Type 0} (pack : A → ℕ) (unpack : ℕ → A) {refused : Refusal → A} {else : A} (t : Test)
@@ -133,14 +136,26 @@ verdict-judged X H v = go (differs B (ones (X .syndrome)) H) refl
         unpacked-values verdict.Refused verdictWith 1 u (omega arith)
         (omega (arith, differs-bound B (ones (X .syndrome)) H u p, v .inside .vertex-limit))
 
+judged-returned : (X : Sheet) (handed : List ℕ) → Valid (X .board) → unpackedVerdict (packedVerdict (judgedOrNone X handed)) ≡ judgedOrNone X handed
+unfolding judgedOrNone
+judged-returned X handed v =
+    back packedVerdict unpackedVerdict (oddPartTest X) verdict-refusal (roomy (odd-small X (v .inside .vertex-limit)))
+    (λ q. verdict-judged X (ones handed) v)
+
 pub verdict-returned : (X : Sheet) (handed : List ℕ) → unpackedVerdict (packedVerdict (verdictAnswer X handed)) ≡ verdictAnswer X handed
-unfolding verdictAnswer judgedOrNone
+unfolding verdictAnswer
 verdict-returned X handed =
     back packedVerdict unpackedVerdict (verdictRefusal X handed) verdict-refusal (roomy (verdict-small X handed))
-    (λ p.
-    let v = verdict-passes X handed p .sheet .board in
-    back packedVerdict unpackedVerdict (oddPartTest X) verdict-refusal (roomy (odd-small X (v .inside .vertex-limit)))
-    (λ q. verdict-judged X (ones handed) v))
+    (λ p. judged-returned X handed (verdict-passes X handed p .sheet .board))
+
+-- with faces the same, on a torus
+pub faces-returned : (side : ℕ) (syndrome loss handed faces : List ℕ) → side < 2 ^ 32
+    → unpackedVerdict (packedVerdict (facesAnswer side syndrome loss handed faces)) ≡ facesAnswer side syndrome loss handed faces
+unfolding facesAnswer
+faces-returned side syndrome loss handed faces h =
+    back packedVerdict unpackedVerdict (facesRefusal side syndrome loss handed faces) verdict-refusal
+    (faces-side side syndrome loss handed faces h)
+    (λ p. judged-returned (torusSheet side syndrome loss) handed (torus-valid side (faces-passes side syndrome loss handed faces p .lent .side)))
 
 -- The distance: the fewest edges, or none
 

@@ -1,21 +1,22 @@
 // The static library: the calls of the table under plain C names, each answering one packed number. Of each, `number` says which number,
 // and `outcome` that what a caller takes from it is the call's answer, with the final contents of every buffer; of decoding, by growths
-// and in rounds, of the verdict and of the stack, `sound` says what may be relied on, of the same answer.
+// and in rounds, of the verdict, with faces too, and of the stack, `sound` says what may be relied on, of the same answer.
 mod packing;
 
 use crate::packing::pack;
 use crate::packing::pack_refusal;
+use crate::packing::pack_verdict;
 use model::answers::Built;
 use model::answers::Decoded;
 use model::answers::Distance;
 use model::answers::Reading;
 use model::answers::RoundsDecoded;
-use model::answers::Verdict;
 use model::answers::Written;
 ghost use mathlib.Core.Path.{_≡_};
 ghost use Rattle.model.specs.Lent.{before, after, boardLent, sheetLent};
 ghost use Rattle.model.specs.Outcomes.{decodeAnswer, Decodes, DecodesSoundly, verdictAnswer, Judges, JudgesSoundly};
 ghost use Rattle.model.specs.Outcomes.{distanceAnswer, Measures, torusAnswer, Builds, planarAnswer, BuildsPlanar};
+ghost use Rattle.model.specs.FacesOutcomes.{facesAnswer, ShowsFaces, FacesSoundly};
 ghost use Rattle.model.specs.StackOutcomes.{stackAnswer, BuildsStack, StacksSoundly};
 ghost use Rattle.model.specs.RoundsOutcomes.{roundsAnswer, DecodesInRounds, RoundsSoundly};
 ghost use Rattle.model.specs.TextOutcomes.{buffersOf, counts, readOutcome, Reads, writeAnswer, Writes};
@@ -114,12 +115,29 @@ pub extern "C" fn surface_verdict(
     ensures sound { λ r.
         ⌜ JudgesSoundly (sheetLent vertices ends marks opened syndrome loss) (before handed) (unpackedVerdict r) ⌝ }
 {
-    match verdict::verdict(vertices, ends, marks, opened, syndrome, loss, handed) {
-        Verdict::Off(v) => pack(1, v.0 as usize),
-        Verdict::Same => pack(2, 0),
-        Verdict::Wound(x) => pack(3, x as usize),
-        Verdict::Refused(n) => pack_refusal(n),
-    }
+    pack_verdict(verdict::verdict(vertices, ends, marks, opened, syndrome, loss, handed))
+}
+
+// The verdict on a handed-in set on the torus of a side, with a byte for each face filled where it is same: as the verdict's.
+#[no_mangle]
+pub extern "C" fn surface_faces(
+    side: u32,
+    syndrome: &[u8],
+    loss: &[u8],
+    handed: &[u8],
+    faces: &mut [u8],
+) -> u64
+    ensures number { λ r.
+        ⌜ r ≡ packedVerdict
+        (facesAnswer side (before syndrome) (before loss) (before handed) (before faces)) ⌝ }
+    ensures outcome { λ r.
+        ⌜ ShowsFaces side (before syndrome) (before loss) (before handed) (before faces)
+        (unpackedVerdict r) (after faces) ⌝ }
+    ensures sound { λ r.
+        ⌜ FacesSoundly side (before syndrome) (before loss) (before handed) (before faces)
+        (unpackedVerdict r) (after faces) ⌝ }
+{
+    pack_verdict(faces::faces(side as usize, syndrome, loss, handed, faces))
 }
 
 // The distance of a board, with a shortest winding loop in `shown`: the fewest edges and 1, or 0 and 0 where there is none.

@@ -1,10 +1,11 @@
 // An answer as one number: bits 0 to 7 the refusal's number or 0; where refused, bits 8 to 63 the place; else bits 8 to 39 a first and
 // bits 40 to 63 a second value.
+use model::answers::Verdict;
 use model::refusal::Refusal;
 use model::refusal::number;
 use model::refusal::place;
 ghost use mathlib.Core.Path.{_≡_};
-ghost use Rattle.model.specs.Packing.{packed, packedRefusal};
+ghost use Rattle.model.specs.Packing.{packed, packedRefusal, packedVerdict};
 
 pub(crate) fn pack(first: usize, second: usize) -> u64
     ensures { λ r. ⌜ r ≡ packed first second ⌝ }
@@ -20,4 +21,16 @@ pub(crate) fn pack_refusal(refusal: Refusal) -> u64
     let n = number(refusal) as u64;
     let at = (place(refusal) % 72057594037927936) as u64;
     n + 256 * at
+}
+
+// A verdict: 1 off with the vertex, 2 same, 3 wound with the value.
+pub(crate) fn pack_verdict(verdict: Verdict) -> u64
+    ensures { λ r. ⌜ r ≡ packedVerdict verdict ⌝ }
+{
+    match verdict {
+        Verdict::Off(v) => pack(1, v.0 as usize),
+        Verdict::Same => pack(2, 0),
+        Verdict::Wound(x) => pack(3, x as usize),
+        Verdict::Refused(n) => pack_refusal(n),
+    }
 }

@@ -1,8 +1,8 @@
 -- Document 01, "Numbers and places", of each call: of all refusals that apply it gives the one with the smallest number, and of those with
--- that number the one with the smallest place. The numbers of the rules rise in all calls but four: the builders test the side before the
--- lengths, that of the stack the rounds too, and the writer the open bytes before the text; of these it is the first rule of the list that
--- is broken. Outside the lists stand 10, which decoding, in rounds too, and the verdict give only where nothing of their lists applies, and
--- 13, which the reader gives alike. Assumes nothing.
+-- that number the one with the smallest place. The numbers of the rules rise in all calls but five: the builders and the verdict with faces
+-- test the side before the lengths, the stack's builder the rounds too, and the writer the open bytes before the text; of these it is the
+-- first rule of the list that is broken. Outside the lists stand 10, which decoding, in rounds too, and the verdict, with faces too, give
+-- only where nothing of their lists applies, and 13, which the reader gives alike. Assumes nothing.
 use Prim.Native.Nat.{ℕ, _*_, _≤_}
 use mathlib.Core.Path.{_≡_, refl, ap, _∙_}
 use mathlib.Core.Bool.{_&&_}
@@ -24,16 +24,17 @@ use Rattle.model.specs.Board.{Board, Sheet, vertexLimit}
 use Rattle.model.specs.Torus.{leastSide, largestSide}
 use Rattle.model.specs.Planar.{leastPlanar, largestPlanar, planarVertices, planarEdges}
 use Rattle.model.specs.Stack.{stackVertices}
-use Rattle.model.specs.Refusals.{Test, numberOf, noneAt, sized, lengthRule, sideRule, planarSideRule, decodeRules, decodeRefusal, verdictRules, verdictRefusal, distanceRules, distanceRefusal, torusRules, torusRefusal, planarRules, planarRefusal, layerRules, readingRules, stackRules, stackRefusal}
+use Rattle.model.specs.Refusals.{Rule, Test, refusalOf, numberOf, noneAt, sized, lengthRule, sideRule, planarSideRule, decodeRules, decodeRefusal, verdictRules, verdictRefusal, distanceRules, distanceRefusal, torusRules, torusRefusal, planarRules, planarRefusal, layerRules, readingRules, stackRules, stackRefusal, torusByteRules, facesRules, facesRefusal}
 use Rattle.model.specs.Outcomes.{answer, keyOrNone, decodeAnswer, judgedOrNone, verdictAnswer, distanceOf, distanceAnswer, torusAnswer}
 use Rattle.model.specs.RoundsOutcomes.{roundsOrNone, roundsAnswer}
+use Rattle.model.specs.FacesOutcomes.{torusSheet, facesAnswer}
 use Rattle.model.specs.Distance.{fewest}
 use Rattle.model.specs.Text.{refused, readText}
 use Rattle.model.specs.TextOutcomes.{Buffers, readRules, readRefusal, readOutcome, counts, writeRules, writeRefusal}
 use Rattle.model.specs.Precedence.{Applies, here, there, NoneApplies, Decides, Smallest, AnswersSmallest}
 use Rattle.model.proofs.Contradiction.{zero-one}
 use Rattle.model.proofs.Xor.{and-left, and-right, not-false-true}
-use Rattle.model.proofs.RuleNumbers.{decode-numbers, verdict-numbers, distance-numbers, torus-numbers, planar-numbers, stack-numbers, read-numbers, write-numbers}
+use Rattle.model.proofs.RuleNumbers.{decode-numbers, verdict-numbers, distance-numbers, torus-numbers, planar-numbers, stack-numbers, faces-numbers, read-numbers, write-numbers}
 use Rattle.theory.proofs.Precedence.{empty-applies, decides-exactly, earlier-kept, other-number}
 use Rattle.theory.proofs.SmallestNumber.{smallest-exactly, answers-smallest}
 
@@ -128,12 +129,10 @@ pub torus-decides : (L : ℕ) (ends marks : List ℕ) (r : Refusal) → (torusRe
 unfolding torusRefusal
 torus-decides L ends marks = decides-exactly (torus-numbers L ends marks)
 
--- Theorem: number 3 is given only where the side is in range, since number 11 is tested before.
-pub torus-length : (L : ℕ) (ends marks : List ℕ) → torusRefusal L ends marks ≡ some BufferLength → (leastSide ≤ L) × (L ≤ largestSide)
-unfolding torusRefusal
-torus-length L ends marks p =
-    let fit = sized ends (4 * (L * L)) && sized marks (2 * (L * L)) in
-    let kept = earlier-kept (sideRule L ∷ []) (lengthRule fit ∷ []) BufferLength p others in
+-- number 3 is given only where the side is in range, if number 11 is tested before
+side-first : (L : ℕ) (rules : List Rule) → refusalOf (sideRule L ∷ rules) ≡ some BufferLength → (leastSide ≤ L) × (L ≤ largestSide)
+side-first L rules p =
+    let kept = earlier-kept (sideRule L ∷ []) rules BufferLength p others in
     let in-range = not-false-true (leb leastSide L && leb L largestSide) (λ out. kept (TorusSide L) (here (out, refl))) in (
       leb-true leastSide L (and-left (leb leastSide L) (leb L largestSide) in-range),
       leb-true L largestSide (and-right (leb leastSide L) (leb L largestSide) in-range),
@@ -142,6 +141,11 @@ torus-length L ends marks p =
     others : (q : Refusal) → Applies (sideRule L ∷ []) q → numberOf q ≢ numberOf BufferLength
     others q (here b) e = let eleven : numberOf q ≡ 11 = ap numberOf (b .1) in omega arith
     others q (there a) e = empty-applies q a
+
+-- Theorem: so it is with the builder.
+pub torus-length : (L : ℕ) (ends marks : List ℕ) → torusRefusal L ends marks ≡ some BufferLength → (leastSide ≤ L) × (L ≤ largestSide)
+unfolding torusRefusal
+torus-length L ends marks = side-first L (lengthRule (sized ends (4 * (L * L)) && sized marks (2 * (L * L))) ∷ [])
 
 -- the builder's answer alike
 pub torus-length-answer : (L : ℕ) (ends marks : List ℕ) → torusAnswer L ends marks ≡ built.Refused BufferLength → (leastSide ≤ L) × (L ≤ largestSide)
@@ -201,3 +205,23 @@ stack-length L R readings ends marks syndrome p =
     others q (here b) e = let eleven : numberOf q ≡ 11 = ap numberOf (b .1) in omega arith
     others q (there (here b)) e = let fifteen : numberOf q ≡ 15 = ap numberOf (b .1) in omega arith
     others q (there (there a)) e = empty-applies q a
+
+-- The verdict with faces: 11, then 3, then 7 to 9, and 10 last
+
+pub faces-decides : (L : ℕ) (syndrome loss handed faces : List ℕ) (r : Refusal)
+    → (facesRefusal L syndrome loss handed faces ≡ some r) ↔ Decides (facesRules L syndrome loss handed faces) r
+unfolding facesRefusal
+faces-decides L syndrome loss handed faces = decides-exactly (faces-numbers L syndrome loss handed faces)
+
+-- Theorem: number 3 is given only where the side is in range.
+pub faces-length : (L : ℕ) (syndrome loss handed faces : List ℕ) → facesRefusal L syndrome loss handed faces ≡ some BufferLength
+    → (leastSide ≤ L) × (L ≤ largestSide)
+unfolding facesRefusal
+faces-length L syndrome loss handed faces = side-first L (torusByteRules L syndrome loss handed faces)
+
+pub faces-last : (L : ℕ) (syndrome loss handed faces : List ℕ) (v : ℕ)
+    → facesAnswer L syndrome loss handed faces ≡ verdict.Refused (noneAt v) → NoneApplies (facesRules L syndrome loss handed faces)
+unfolding facesAnswer facesRefusal
+faces-last L syndrome loss handed faces v =
+    other-number (faces-numbers L syndrome loss handed faces) (noneAt v) refl verdict.Refused
+    (judgedOrNone (torusSheet L syndrome loss) handed) (λ q e. cc)

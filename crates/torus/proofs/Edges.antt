@@ -8,16 +8,16 @@ use lib.Dec.{eqb}
 use Rattle.model.specs.Torus.{row, column, rightOf, below, torusFrom, torusTo, torusMark, torusEnd}
 
 -- the halves of an even and of an odd number
-half-even : (n : ℕ) → 2 * n / 2 ≡ n
+pub half-even : (n : ℕ) → 2 * n / 2 ≡ n
 half-even n = omega arith
 
-half-odd : (n : ℕ) → (2 * n + 1) / 2 ≡ n
+pub half-odd : (n : ℕ) → (2 * n + 1) / 2 ≡ n
 half-odd n = omega arith
 
-even : (n : ℕ) → eqb (2 * n % 2) 0 ≡ true
+pub even : (n : ℕ) → eqb (2 * n % 2) 0 ≡ true
 even n = eq-eqb (2 * n % 2) 0 (omega arith)
 
-odd : (n : ℕ) → eqb ((2 * n + 1) % 2) 0 ≡ false
+pub odd : (n : ℕ) → eqb ((2 * n + 1) % 2) 0 ≡ false
 odd n = ne-eqb ((2 * n + 1) % 2) 0 (λ q. omega arith)
 
 pub first-end : (L e : ℕ) → torusEnd L (2 * e) ≡ torusFrom e

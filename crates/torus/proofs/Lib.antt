@@ -5,3 +5,11 @@ pub mod Filling
 pub mod Writing
 pub mod TorusRows
 pub mod TorusValid
+pub mod TorusCells
+pub mod VertexSums
+pub mod Cycles
+pub mod TorusStar
+pub mod TorusLines
+pub mod Columns
+pub mod TorusLoop
+pub mod TorusDistance

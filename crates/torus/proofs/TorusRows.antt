@@ -35,13 +35,13 @@ unfolding torus torusMarks
 mark-is L e h = getD-values (2 * (L * L)) (torusMark L) e 0 h
 
 module _ (L r c : ℕ) (in-row : r < L) (in-column : c < L) where
-  inside : r * L + c < L * L
+  pub inside : r * L + c < L * L
   inside = digits-lt in-row in-column
 
-  row-of : row L (r * L + c) ≡ r
+  pub row-of : row L (r * L + c) ≡ r
   row-of = digits-div r in-column
 
-  column-of : column L (r * L + c) ≡ c
+  pub column-of : column L (r * L + c) ≡ c
   column-of = digits-mod r in-column
 
   pub first-from : firstEnd (torus L) (2 * (r * L + c)) ≡ r * L + c

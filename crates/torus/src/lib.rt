@@ -35,7 +35,7 @@ pub fn torus(side: usize, ends: &mut [u16], marks: &mut [u8]) -> Built
 }
 
 // Both edges of each vertex in turn: to its right, then below.
-fn fill_ends(side: usize, ends: &mut [u16])
+pub fn fill_ends(side: usize, ends: &mut [u16])
     requires { ⌜ SideWithin side × (length (now ends) ≡ 4 * (side * side)) ⌝ }
     ensures { λ _. ⌜ after ends ≡ torusEnds side ⌝ }
 {
@@ -56,7 +56,7 @@ fn fill_ends(side: usize, ends: &mut [u16])
 }
 
 // The marks of these edges, in the same order.
-fn fill_marks(side: usize, marks: &mut [u8])
+pub fn fill_marks(side: usize, marks: &mut [u8])
     requires { ⌜ SideWithin side × (length (now marks) ≡ 2 * (side * side)) ⌝ }
     ensures { λ _. ⌜ after marks ≡ torusMarks side ⌝ }
 {

@@ -3,5 +3,5 @@ mod CrossingCounts
 mod Clearing
 mod Judged
 mod LoadedBytes
-mod SoundVerdicts
-mod VerdictAnswers
+pub mod SoundVerdicts
+pub mod VerdictAnswers

@@ -21,7 +21,7 @@ use Rattle.model.proofs.ListLaws.{ones-bytes, bytes-valid}
 use Rattle.theory.proofs.CrossedLines.{crossings-cong}
 use Rattle.theory.proofs.Decodings.{passed-answer, none-answer, key-answer}
 use Rattle.board.proofs.Calls.{passes-decode, passes-verdict}
-use Rattle.verdict.specs.Judging.{Judgeable, Comparable}
+use Rattle.verdict.specs.Judging.{Judgeable, Comparable, Compares}
 
 -- only the edges of the correction below the edge count matter
 judged-cong : (B : Board) (S C D H : Set) → ((e : ℕ) → e < edges B → C e ≡ D e) → judged B S C H ≡ judged B S D H
@@ -67,7 +67,7 @@ module _ (X : Sheet) (handed support correction support′ correction′ : List 
   judged-is = passed-verdict X handed (passes-verdict X handed (record { sheet = lent .sheet; bytes = lent .handed-bytes }))
 
   -- decoding refuses: number 10, with the same vertex
-  pub none-judges : (n : Refusal) → a ≡ decoded.Refused n → Judges X handed (verdict.Refused n)
+  none-judges : (n : Refusal) → a ≡ decoded.Refused n → Judges X handed (verdict.Refused n)
   none-judges n refused = go (smallestOdd (X .board) (ones (X .syndrome))) refl
     where
       go : (o : Option ℕ) → smallestOdd (X .board) (ones (X .syndrome)) ≡ o → Judges X handed (verdict.Refused n)
@@ -78,6 +78,9 @@ module _ (X : Sheet) (handed support correction support′ correction′ : List 
       go none p =
           let q : decoded.Refused n ≡ decoded.Key (growths X) (size (X .board) (corrected X)) = sym refused ∙ decoded-is ∙ key-answer X p in
           zero-one (cc)
+
+  pub none-compares : (n : Refusal) → a ≡ decoded.Refused n → Compares X handed (verdict.Refused n) correction′
+  none-compares n refused = record { judges = none-judges n refused; corrected-bytes = λ same. zero-one (cc) }
 
   -- decoding gives a key: the correction is written, and can be compared
   module _ (g k : ℕ) (key : a ≡ decoded.Key g k) where
@@ -95,7 +98,7 @@ module _ (X : Sheet) (handed support correction support′ correction′ : List 
           unlit = lent .sheet .unlit;
         }
 
-    pub key-judges : (r : Verdict) → r ≡ judged (X .board) (ones (X .syndrome)) (ones correction′) (ones handed) → Judges X handed r
+    key-judges : (r : Verdict) → r ≡ judged (X .board) (ones (X .syndrome)) (ones correction′) (ones handed) → Judges X handed r
     key-judges r q = go (smallestOdd (X .board) (ones (X .syndrome))) refl
       where
         go : (o : Option ℕ) → smallestOdd (X .board) (ones (X .syndrome)) ≡ o → Judges X handed r
@@ -110,3 +113,7 @@ module _ (X : Sheet) (handed support correction support′ correction′ : List 
                   (λ e h. ap (λ l. ones l e) key-written ∙ ones-bytes (edges (X .board)) (corrected X) e h)
                   ∙ sym (judged-is ∙ judged-verdict X handed p);
             }
+
+    pub key-compares : (r : Verdict) → r ≡ judged (X .board) (ones (X .syndrome)) (ones correction′) (ones handed)
+        → Compares X handed r correction′
+    key-compares r q = record { judges = key-judges r q; corrected-bytes = λ same. key-written }

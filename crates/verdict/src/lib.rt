@@ -11,12 +11,12 @@ use model::answers::Decoded;
 use model::answers::Verdict;
 use model::limits::EDGES;
 ghost use Rattle.model.specs.Board.{boardOf, sheetOf};
-ghost use Rattle.model.specs.Lent.{before, sheetLent};
+ghost use Rattle.model.specs.Lent.{before, after, sheetLent};
 ghost use Rattle.model.specs.Outcomes.{Judges, JudgesSoundly};
-ghost use Rattle.verdict.specs.Judging.{Comparable};
+ghost use Rattle.verdict.specs.Judging.{Comparable, Compares};
 
-// The verdict once its own tests have passed: decoding's refusal, or the comparison with the correction that it wrote.
-fn compare(
+// The verdict once its own tests have passed: decoding's refusal, or the comparison with the correction that it wrote and leaves there.
+pub fn compare(
     vertices: usize,
     ends: &[u16],
     marks: &[u8],
@@ -29,7 +29,7 @@ fn compare(
 ) -> Verdict
     requires { ⌜ Comparable (sheetOf (boardOf vertices (now ends) (now marks) (now opened)) (now syndrome) (now loss))
         (now handed) (now support) (now correction) ⌝ }
-    ensures { λ r. ⌜ Judges (sheetLent vertices ends marks opened syndrome loss) (before handed) r ⌝ }
+    ensures { λ r. ⌜ Compares (sheetLent vertices ends marks opened syndrome loss) (before handed) r (after correction) ⌝ }
 {
     let decoded = decode(
         vertices,

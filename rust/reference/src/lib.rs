@@ -1,10 +1,10 @@
 //! A plain decoder, written from document 01's steps and sharing nothing with the proved one.
 //!
 //! Nothing here is clever or fast: each section of document 01 is one module, in its words, and so are
-//! growing in rounds ([`rounds`]), open sides ([`open_sides`], [`planar`]) and repeated readings
-//! ([`stack`]), which document 02 adds. Beside them stand a second way to find the number of a
-//! malformed line ([`line_numbers`]), a seeded generator of random numbers, and the boards that
-//! decoders are tried on.
+//! growing in rounds ([`rounds`]), open sides ([`open_sides`], [`planar`]), repeated readings
+//! ([`stack`]) and faces as evidence ([`faces`]), which document 02 adds. Beside them stand a second
+//! way to find the number of a malformed line ([`line_numbers`]), a seeded generator of random numbers,
+//! and the boards that decoders are tried on.
 //!
 //! A set of vertices or edges is a slice with a byte for each, 0 or 1, as the calls are lent it.
 
@@ -13,6 +13,7 @@ pub mod components;
 pub mod damage;
 pub mod decoding;
 pub mod distance;
+pub mod faces;
 pub mod generators;
 pub mod growth;
 pub mod line_numbers;

@@ -1,7 +1,7 @@
 //! Document 01, "Numbers and places": the tests of each call, in the order of their numbers. By
 //! document 02, K3, equal ends break no rule, so that number 5 never occurs; by K5 the open bytes are
 //! tested after 8 and 9 and before 10; by K1 a stack's rounds are tested after its side and before any
-//! length.
+//! length; by K9 the verdict with faces tests the side before all else.
 
 use crate::board::{Board, EDGE_LIMIT, Sheet, VERTEX_LIMIT};
 
@@ -97,6 +97,23 @@ pub fn verdict(lent: &Sheet, handed: &[u8]) -> Test {
     sheet(lent, &[handed.len()])?;
     bytes(9, handed)?;
     open_sides(lent)
+}
+
+/// The tests of the verdict with faces, which is lent a buffer of this length to fill; all but number
+/// 10. It is lent a side in place of a board, and the lengths are tested only once that is in range.
+pub fn faces(side: u32, syndrome: &[u8], loss: &[u8], handed: &[u8], faces: usize) -> Test {
+    let side = side as usize;
+    unless((1..=32).contains(&side), 11, side)?;
+    let (vertices, edges) = (side * side, 2 * side * side);
+    buffer_lengths(&[
+        (syndrome.len(), vertices),
+        (loss.len(), edges),
+        (handed.len(), edges),
+        (faces, vertices),
+    ])?;
+    bytes(7, syndrome)?;
+    bytes(8, loss)?;
+    bytes(9, handed)
 }
 
 /// The tests of the distance, which is lent a buffer of this length to fill.

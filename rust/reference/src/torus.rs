@@ -1,6 +1,6 @@
-//! Document 01, "Distance and torus": the torus of a side.
+//! Document 01, "Distance and torus": the torus of a side, and the loops that wind once around it.
 
-use crate::board::Board;
+use crate::board::{Board, set_of};
 use crate::refusal::{self, Refusal};
 
 /// The torus of this side, or a refusal; the buffers lent for ends and marks have these lengths.
@@ -22,4 +22,16 @@ pub fn torus(side: usize) -> Board {
         }
     }
     Board::new(side * side, &edges)
+}
+
+/// The loop along a row of the torus of a side: its edges to the next column.
+pub fn row_loop(side: usize, row: usize) -> Vec<u8> {
+    let edges: Vec<usize> = (0..side).map(|column| 2 * (row * side + column)).collect();
+    set_of(2 * side * side, &edges)
+}
+
+/// The loop down a column: its edges to the next row.
+pub fn column_loop(side: usize, column: usize) -> Vec<u8> {
+    let edges: Vec<usize> = (0..side).map(|row| 2 * (row * side + column) + 1).collect();
+    set_of(2 * side * side, &edges)
 }

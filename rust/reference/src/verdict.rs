@@ -19,14 +19,18 @@ pub enum Verdict {
 /// The verdict on a handed-in set, or the first refusal.
 pub fn verdict(sheet: &Sheet, handed: &[u8]) -> Result<Verdict, Refusal> {
     refusal::verdict(sheet, handed)?;
-    let key = key(sheet)?;
+    Ok(judged(sheet, handed, &key(sheet)?.correction))
+}
+
+/// The verdict on a handed-in set for a sheet with this correction, where neither breaks a rule.
+pub(crate) fn judged(sheet: &Sheet, handed: &[u8], correction: &[u8]) -> Verdict {
     let board = &sheet.board;
     let differing = together(&board.syndrome(handed), &sheet.syndrome);
     if let Some(vertex) = differing.iter().position(|&differs| differs == 1) {
-        return Ok(Verdict::Off(vertex));
+        return Verdict::Off(vertex);
     }
-    Ok(match board.crossings(&together(handed, &key.correction)) {
+    match board.crossings(&together(handed, correction)) {
         0 => Verdict::Same,
         marks => Verdict::Wound(marks),
-    })
+    }
 }

@@ -3,6 +3,7 @@
 use reference::board::{Board, Sheet};
 use reference::decoding::decode_into;
 use reference::distance::distance_into;
+use reference::faces::faces_into;
 use reference::generators::{path, ring};
 use reference::planar::planar_into;
 use reference::refusal::{Refusal, reader};
@@ -144,6 +145,39 @@ fn stack_sides_and_rounds() {
     let mut readings = vec![0; 75];
     (readings[74], readings[26]) = (2, 255);
     assert_eq!(refused(stack_into(5, 3, &readings, (400, 200, 75))), (7, 26));
+}
+
+/// Side 1 has one face and two edges, side 32 has 1,024 and 2,048. Tests are in the order 11, 3, 7, 8, 9,
+/// 10.
+#[test]
+fn faces_of_a_side() {
+    for (side, vertices) in [(1, 1), (2, 4), (5, 25), (32, 1024)] {
+        let (lit, twice) = (vec![2; vertices], vec![2; 2 * vertices]);
+        let (dark, none) = (vec![0; vertices], vec![0; 2 * vertices]);
+        let mut one_lit = dark.clone();
+        one_lit[vertices - 1] = 1;
+        let refusal = |lit: &[u8], loss: &[u8], handed: &[u8], faces: usize| {
+            refused(faces_into(side, lit, loss, handed, faces))
+        };
+        assert_eq!(refused(faces_into(33, &lit, &twice, &twice, vertices)), (11, 33));
+        assert_eq!(refusal(&lit, &twice, &twice, vertices + 1), (3, 0));
+        assert_eq!(refusal(&lit, &twice, &twice, vertices - 1), (3, 0));
+        assert_eq!(refusal(&lit[1..], &twice, &twice, vertices), (3, 0));
+        assert_eq!(refusal(&lit, &twice[1..], &twice, vertices), (3, 0));
+        assert_eq!(refusal(&lit, &twice, &twice[1..], vertices), (3, 0));
+        assert_eq!(refusal(&lit, &twice, &twice, vertices), (7, 0));
+        assert_eq!(refusal(&one_lit, &twice, &twice, vertices), (8, 0));
+        assert_eq!(refusal(&one_lit, &none, &twice, vertices), (9, 0));
+        assert_eq!(refusal(&one_lit, &none, &none, vertices), (10, 0));
+        let answer = faces_into(side, &dark, &none, &none, vertices);
+        assert_eq!(answer, Ok((Verdict::Same, Some(dark))));
+    }
+    for side in [0, 33, u32::MAX] {
+        assert_eq!(refused(faces_into(side, &[], &[], &[], 0)), (11, side.into()));
+    }
+    let mut handed = [0; 18];
+    (handed[17], handed[5]) = (2, 255);
+    assert_eq!(refused(faces_into(3, &[0; 9], &[0; 18], &handed, 9)), (9, 5));
 }
 
 /// 16 comes after 8 and 9, 17 right after it, and 10 or the writer's own numbers last. The distance is

@@ -3,6 +3,7 @@
 mod decode;
 mod decode_rounds;
 mod distance;
+mod faces;
 mod planar;
 mod read;
 mod stack;
@@ -13,6 +14,7 @@ mod write;
 pub use decode::{Key, decode};
 pub use decode_rounds::{RoundsKey, decode_rounds};
 pub use distance::distance;
+pub use faces::faces;
 pub use planar::planar;
 pub use read::{Counts, read};
 pub use stack::stack;

@@ -75,6 +75,18 @@ unsafe extern "C" {
         handed_count: usize,
     ) -> u64;
 
+    pub fn surface_faces(
+        side: u32,
+        syndrome: *const u8,
+        syndrome_count: usize,
+        loss: *const u8,
+        loss_count: usize,
+        handed: *const u8,
+        handed_count: usize,
+        faces: *mut u8,
+        faces_count: usize,
+    ) -> u64;
+
     pub fn surface_distance(
         vertices: usize,
         ends: *const u16,

@@ -39,5 +39,7 @@ mod refusal;
 
 pub use board::{Board, EDGES, Sheet, TEXT, VERTICES};
 pub use calls::{Counts, Key, RoundsKey, Verdict};
-pub use calls::{decode, decode_rounds, distance, planar, read, stack, torus, verdict, write};
+pub use calls::{
+    decode, decode_rounds, distance, faces, planar, read, stack, torus, verdict, write,
+};
 pub use refusal::Refusal;

@@ -9,9 +9,9 @@ use crate::{EDGES, TEXT, VERTICES};
 ///
 /// Of all the rules that a call's buffers break, the one that the call tests first is given, at its
 /// smallest place. That is the one with the smallest number, but for these: 16 and 17 are tested
-/// before 10, 12 and 14, the torus builder tests 11 before 3, the planar builder 18 before 3, and the
-/// builder of stacks 11 and 15 before 3 and 7. Number 5 is not in use. A call that refuses has written
-/// nothing. What is displayed is a sentence with the place.
+/// before 10, 12 and 14, and a call that is lent a side tests it before all else, by number 11 or, for
+/// a planar board, 18; the builder of stacks tests 15 next. Number 5 is not in use. A call that refuses
+/// has written nothing. What is displayed is a sentence with the place.
 ///
 /// # Examples
 ///
@@ -47,7 +47,7 @@ pub enum Refusal {
     /// holds an odd number of syndrome vertices, and no open vertex. This is the smallest vertex of
     /// all such parts.
     NoCorrection(usize),
-    /// Number 11: no torus is built with this side.
+    /// Number 11: no torus has this side.
     TorusSide(u32),
     /// Number 12: the text to be read or written has more than [`TEXT`](crate::TEXT) bytes.
     TextLength,

@@ -6,6 +6,7 @@
 use reference::board::{Board, Sheet, size};
 use reference::decoding::decode_into;
 use reference::distance::distance_into;
+use reference::faces::faces_into;
 use reference::line_numbers::first_malformed_line;
 use reference::planar::planar_into;
 use reference::refusal;
@@ -162,15 +163,64 @@ pub fn verdict(sheet: &Sheet, handed: &[u8]) -> Result<Verdict, Refusal> {
     lent.returned();
     handed_bytes.returned_unchanged(handed);
     let plain = plain_verdict::verdict(sheet, handed);
-    let agrees = match (answer, plain) {
+    assert!(is_judged(answer, plain), "{answer:?}, not {plain:?}: {handed:?} on {sheet:?}");
+    answer
+}
+
+/// Whether the library judges a handed-in set, or refuses it, as the plain decoder does.
+fn is_judged(answer: Result<Verdict, Refusal>, plain: Result<PlainVerdict, PlainRefusal>) -> bool {
+    match (answer, plain) {
         (Ok(Verdict::Off(vertex)), Ok(PlainVerdict::Off(plain))) => vertex == plain,
         (Ok(Verdict::Same), Ok(PlainVerdict::Same)) => true,
         (Ok(Verdict::Wound(marks)), Ok(PlainVerdict::Wound(plain))) => marks == plain,
         (Err(refusal), Err(plain)) => is_refusal(refusal, plain),
         _ => false,
-    };
-    assert!(agrees, "{answer:?}, not {plain:?}: {handed:?} on {sheet:?}");
-    answer
+    }
+}
+
+/// The verdict with faces on the torus of a side, with a buffer of this length to fill: the faces that
+/// were written where it is same, else none.
+pub fn faces_with(
+    side: u32,
+    syndrome: &[u8],
+    loss: &[u8],
+    handed: &[u8],
+    faces: usize,
+) -> Result<(Verdict, Option<Vec<u8>>), Refusal> {
+    let before = noise(faces);
+    let mut syndrome_bytes = Guarded::new(syndrome, BYTE_GUARD);
+    let mut loss_bytes = Guarded::new(loss, BYTE_GUARD);
+    let mut handed_bytes = Guarded::new(handed, BYTE_GUARD);
+    let mut faces_filled = Guarded::new(&before, BYTE_GUARD);
+    let answer = table::faces(
+        side,
+        syndrome_bytes.lent(),
+        loss_bytes.lent(),
+        handed_bytes.lent(),
+        faces_filled.lent(),
+    );
+    syndrome_bytes.returned_unchanged(syndrome);
+    loss_bytes.returned_unchanged(loss);
+    handed_bytes.returned_unchanged(handed);
+    let after = faces_filled.returned();
+    let plain = faces_into(side, syndrome, loss, handed, faces);
+    let case = || format!("side {side}: {handed:?} for {syndrome:?}, lost {loss:?}");
+    let judged = plain.as_ref().map(|&(verdict, _)| verdict).map_err(|&refusal| refusal);
+    assert!(is_judged(answer, judged), "{answer:?}, not {judged:?}: {}", case());
+    let shown = plain.ok().and_then(|(_, shown)| shown);
+    let left = shown.as_ref().unwrap_or(&before);
+    assert!(after == *left, "{answer:?}, and {after:?} in place of {left:?}: {}", case());
+    Ok((answer?, shown))
+}
+
+/// The verdict with faces with a buffer of the right length to fill; the side is in range.
+pub fn faces(
+    side: u32,
+    syndrome: &[u8],
+    loss: &[u8],
+    handed: &[u8],
+) -> Result<(Verdict, Option<Vec<u8>>), Refusal> {
+    faces_with(side, syndrome, loss, handed, (side * side) as usize)
 }
 
 /// The distance with a buffer of this length to fill.

@@ -129,11 +129,12 @@ fn number_that_is_not_in_use() {
 }
 
 /// The tests of each call, in order, as the page of rules must list them: 16 and 17 come after 8 and 9
-/// and before 10, 12 and 14, and a builder's side and rounds before the lengths.
-const TESTS: [(&str, &str); 9] = [
+/// and before 10, 12 and 14, and a side and rounds before the lengths.
+const TESTS: [(&str, &str); 10] = [
     ("decode", "1 2 3 4 6 7 8 16 17 10"),
     ("decode_rounds", "1 2 3 4 6 7 8 16 17 10"),
     ("verdict", "1 2 3 4 6 7 8 9 16 17 10"),
+    ("faces", "11 3 7 8 9 10"),
     ("distance", "1 2 3 4 6 16"),
     ("torus", "11 3"),
     ("planar", "18 3"),

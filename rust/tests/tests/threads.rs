@@ -92,5 +92,15 @@ fn all_calls_at_once() {
                 agrees::stack(side, rounds, &readings).expect("a side and rounds in range");
             }
         });
+        scope.spawn(|| {
+            let mut random = Random::new(142);
+            for round in 0..sheets.len() {
+                let side = 1 + round % 12;
+                let board = torus(side);
+                let [error, loss] = [0; 2].map(|_| random.set(board.edges(), 50));
+                let answer = agrees::faces(side as u32, &board.syndrome(&error), &loss, &error);
+                assert!(answer.is_ok(), "the error has the syndrome");
+            }
+        });
     });
 }

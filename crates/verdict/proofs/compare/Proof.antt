@@ -1,7 +1,7 @@
 -- The outcome follows from decoding's own. Assumes nothing.
 use borrow.Author.Needs.{needs}
 use Rattle.model.specs.Board.{Sheet, boardOf, sheetOf}
-use Rattle.verdict.proofs.VerdictAnswers.{none-judges, key-judges, judgeable}
+use Rattle.verdict.proofs.VerdictAnswers.{none-compares, key-compares, judgeable}
 use Rattle.verdict.proofs.compare.Statement.{statement}
 use Rattle.verdict.proofs.compare.Tie as tie
 
@@ -36,7 +36,7 @@ returns c =
     let decoded = answered (read .before .before) in
     let start = begun decoded in
     let a = start .args in
-    none-judges (lent start) (a .handed .now) (a .support .now) (a .correction .now) _ _ (start .pre)
+    none-compares (lent start) (a .handed .now) (a .support .now) (a .correction .now) _ _ (start .pre)
     (decoded .decode .result) (decoded .decode .ensures .0) _ (read .decoded .given .1)
 
 enum-told : tie.Need-enum-told
@@ -63,7 +63,7 @@ returns-2 c =
     let decoded = answered (told .before .before) in
     let start = begun decoded in
     let a = start .args in
-    key-judges (lent start) (a .handed .now) (a .support .now) (a .correction .now) _ _ (start .pre)
+    key-compares (lent start) (a .handed .now) (a .support .now) (a .correction .now) _ _ (start .pre)
     (decoded .decode .result) (decoded .decode .ensures .0) _ _ (told .enum-told .given .1) _ (c .judge .ensures)
 
 pub compare-spec : {M : Type 1} → statement M

@@ -82,7 +82,7 @@ returns-2 c =
     let compared = c .before .before in
     let told = compared .before .before .before in
     let start = begun (told .before .before) in
-    let j = compared .compare .ensures in
+    let j = compared .compare .ensures .judges in
     (j, judges-sound (lent start) (start .args .handed .now) _ j)
 
 pub verdict-spec : {M : Type 1} → statement M

@@ -4,7 +4,7 @@ use crate::exported::call;
 use crate::packed::{impossible, unpack};
 use crate::{Board, Refusal, Sheet};
 
-/// What [`verdict`] says of a handed-in set.
+/// What [`verdict`] and [`faces`](crate::faces) say of a handed-in set.
 #[derive(Clone, Copy, Debug, PartialEq, Eq)]
 #[must_use]
 pub enum Verdict {
@@ -14,6 +14,19 @@ pub enum Verdict {
     Same,
     /// Together with the correction the set winds, with this exclusive or of marks, 1 to 3.
     Wound(u8),
+}
+
+impl Verdict {
+    /// The verdict on a board with so many vertices that two returned values stand for, where there is
+    /// one.
+    pub(super) fn new(values: (usize, usize), vertices: usize) -> Option<Verdict> {
+        match values {
+            (1, vertex) if vertex < vertices => Some(Verdict::Off(vertex)),
+            (2, 0) => Some(Verdict::Same),
+            (3, marks @ 1..=3) => Some(Verdict::Wound(marks as u8)),
+            _ => None,
+        }
+    }
 }
 
 /// Compares a handed-in set, a byte for each edge, with the correction of a sheet.
@@ -62,12 +75,8 @@ pub fn verdict(sheet: Sheet<'_>, handed: &[u8]) -> Result<Verdict, Refusal> {
 
 /// The verdict on a board with so many vertices that a returned number stands for.
 fn unpack_verdict(returned: u64, vertices: usize) -> Result<Verdict, Refusal> {
-    match unpack(returned, &[1, 2, 3, 4, 6, 7, 8, 9, 16, 17, 10])? {
-        (1, vertex) if vertex < vertices => Ok(Verdict::Off(vertex)),
-        (2, 0) => Ok(Verdict::Same),
-        (3, marks @ 1..=3) => Ok(Verdict::Wound(marks as u8)),
-        _ => impossible(returned),
-    }
+    let values = unpack(returned, &[1, 2, 3, 4, 6, 7, 8, 9, 16, 17, 10])?;
+    Verdict::new(values, vertices).map_or_else(|| impossible(returned), Ok)
 }
 
 #[cfg(test)]

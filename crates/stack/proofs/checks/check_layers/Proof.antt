@@ -1,12 +1,15 @@
 -- `stack::checks::check_layers` meets its contract: each return has the facts of the tests that led to it. Assumes nothing.
 use mathlib.Core.Path.{sym}
+use mathlib.Core.List.{[], _∷_}
 use mathlib.Core.Logic.{⊎-elim}
 use native.Mathlib.Nat.{one-le-mul}
 use native.Mathlib.Omega.{arith}
 use borrow.Author.Tests.{ltb-true, ltb-false}
+use Rattle.model.specs.Refusals.{roundsRule}
 use Rattle.torus.specs.Sides.{SideWithin}
 use Rattle.torus.proofs.Numbering.{square-limit}
-use Rattle.stack.proofs.LayerTests.{side-too-small, side-too-large, no-round, too-many-rounds, rounds-fit, layers-pass}
+use Rattle.torus.proofs.SideRefused.{small-refused, large-refused}
+use Rattle.stack.proofs.LayerTests.{no-round, too-many-rounds, rounds-fit, layers-pass}
 use Rattle.stack.proofs.checks.check_layers.Statement.{statement}
 use Rattle.stack.proofs.checks.check_layers.Tie as tie
 
@@ -14,8 +17,8 @@ returns : tie.Need-returns
 returns c =
     let a = c .before .args in
     ⊎-elim
-    (λ w. sym (side-too-small (a .side) (a .rounds) (w .taken)))
-    (λ w. sym (side-too-large (a .side) (a .rounds) (w .0 .left) (ltb-true _ _ (w .1 .taken))))
+    (λ w. sym (small-refused (a .side) (roundsRule (a .side) (a .rounds) ∷ []) (w .taken)))
+    (λ w. sym (large-refused (a .side) (roundsRule (a .side) (a .rounds) ∷ []) (w .0 .left) (ltb-true _ _ (w .1 .taken))))
     (c .if1 .came)
 
 mul-layer : tie.Need-mul-layer

@@ -1,0 +1,12 @@
+pub mod FaceSteps
+pub mod EveryEdge
+pub mod FaceSums
+pub mod FacesBack
+pub mod FacesExactly
+pub mod FaceBytes
+pub mod MarkSteps
+pub mod FaceTests
+pub mod BuiltTorus
+pub mod AsVerdict
+pub mod MarkedFaces
+pub mod FacesOutcome
