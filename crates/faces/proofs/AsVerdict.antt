@@ -1,7 +1,7 @@
 -- The verdict with faces refuses exactly as the verdict on the torus does, once the side is in range and there is a byte for each face: no
 -- other rule of the verdict can be broken on a torus. Assumes nothing.
-use Prim.Native.Nat.{ℕ, _*_, _%_, _≤_}
-use mathlib.Core.Path.{_≡_, refl, sym, ap, ap₂, _∙_}
+use Prim.Native.Nat.{ℕ, _*_, _%_}
+use mathlib.Core.Path.{_≡_, refl, sym, ap₂, _∙_}
 use mathlib.Core.Bool.{Bool, true, false, _&&_}
 use mathlib.Core.List.{List, [], _∷_}
 use mathlib.Core.Option.{none, some}
@@ -12,7 +12,7 @@ use Rattle.model.specs.declared.refusal.Refusal.the-variants.{BufferLength}
 use Rattle.model.specs.Sums.{orElse}
 use Rattle.model.specs.Board.{Sheet, Valid, vertexLimit, edgeLimit}
 use Rattle.model.specs.Torus.{torus}
-use Rattle.model.specs.Refusals.{Test, refusalOf, edgesOf, sized, handedRule, byteRules, openRules, bytesSized, boardSized, boardRules, plainRules, facesSized, torusByteRules, facesRefusal, verdictRefusal}
+use Rattle.model.specs.Refusals.{Test, refusalOf, edgesOf, sized, handedRule, byteRules, openRules, bytesSized, boardSized, plainRules, facesSized, torusByteRules, facesRefusal, verdictRefusal}
 use Rattle.model.specs.FacesOutcomes.{torusSheet}
 use Rattle.model.proofs.Xor.{and-both}
 use Rattle.model.proofs.RuleLists.{refusal-append}

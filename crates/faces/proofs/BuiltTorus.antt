@@ -1,10 +1,9 @@
 -- The torus that is built for the verdict, and the sheet that is judged on it. Assumes nothing.
 use Prim.Native.Nat.{ℕ, _*_}
-use mathlib.Core.Path.{_≡_, sym, ap₂, subst, _∙_}
+use mathlib.Core.Path.{_≡_, sym, subst, _∙_}
 use mathlib.Core.Bool.{false≢true}
 use mathlib.Core.List.{List}
-use native.Mathlib.Omega.{arith}
-use lib.ListN.{length, replicate}
+use lib.ListN.{replicate}
 use Rattle.model.specs.declared.answers.Verdict.{Verdict}
 use Rattle.model.specs.Board.{ValidBytes, ValidSheet, Unlit, boardOf, sheetOf, edges}
 use Rattle.model.specs.Sums.{Set}

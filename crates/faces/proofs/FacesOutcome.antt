@@ -11,18 +11,17 @@ use Rattle.model.specs.declared.answers.Verdict.{Verdict}
 use Rattle.model.specs.declared.answers.Verdict.the-variants.{Same, Wound, Refused}
 use Rattle.model.specs.Sums.{Set, bit, ones}
 use Rattle.model.specs.Board.{Sheet}
-use Rattle.model.specs.Winding.{closed, winds}
 use Rattle.model.specs.Decoding.{corrected}
 use Rattle.model.specs.Verdict.{SoundVerdict}
 use Rattle.model.specs.Torus.{leastSide, largestSide, torus}
 use Rattle.model.specs.Faces.{MakesUp, faceOf, faceBytes}
 use Rattle.model.specs.Refusals.{Test, facesRefusal}
-use Rattle.model.specs.Outcomes.{answer, judgedOrNone, verdictAnswer, Judges, JudgesSoundly}
+use Rattle.model.specs.Outcomes.{answer, judgedOrNone, verdictAnswer, Judges}
 use Rattle.model.specs.FacesOutcomes.{torusSheet, facesAnswer, withCorrection, sameOr, ShowsFaces, FacesSoundly}
 use Rattle.model.proofs.Contradiction.{zero-one}
 use Rattle.model.proofs.ListLaws.{getD-values}
 use Rattle.verdict.proofs.SoundVerdicts.{judges-sound}
-use Rattle.faces.specs.Lent.{ForFaces, Answered}
+use Rattle.faces.specs.Lent.{Answered}
 use Rattle.faces.proofs.FaceSteps.{face-0-out}
 use Rattle.faces.proofs.FaceSums.{made-up-unwound}
 use Rattle.faces.proofs.FacesExactly.{faces-make-up}

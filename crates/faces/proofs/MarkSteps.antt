@@ -1,10 +1,8 @@
 -- The marks of faces as the code makes them, one after the other: the byte across an edge, and that of each face from one before it.
 -- Assumes nothing.
-use Prim.Native.Nat.{ℕ, _+_, _*_, _-_, _≤_, _<_}
+use Prim.Native.Nat.{ℕ, _*_, _-_, _≤_, _<_}
 use mathlib.Core.Path.{_≡_, refl, sym, ap, ap₂, _∙_}
-use mathlib.Core.Bool.{Bool}
 use mathlib.Core.List.{List}
-use native.Mathlib.Nat.{mul-le-mul, le-refl}
 use native.Mathlib.Omega.{arith}
 use lib.Bits.{bitXor}
 use lib.Dec.{eqb}
@@ -28,8 +26,8 @@ across-byte m a b p q r =
     ∙ ap bit (xor-assoc (eqb m 1) (eqb a 1) (eqb b 1))
 
 -- face 0 has no mark
-pub first-mark : (L : ℕ) (D : Set) (l : List ℕ) → 1 ≤ L → 0 < length l → Filled (λ k. bit (faceOf L D k)) 1 (set l 0 0)
-first-mark L D l some long = filled-more 0 0 (filled-none _ l) refl long (sym (ap bit (face-0-out L D some)))
+pub first-mark : (L : ℕ) (D : Set) (l : List ℕ) (x : ℕ) → 1 ≤ L → 0 < length l → x ≡ 0 → Filled (λ k. bit (faceOf L D k)) 1 (set l 0 x)
+first-mark L D l x some long unmarked = filled-more 0 x (filled-none _ l) refl long (unmarked ∙ sym (ap bit (face-0-out L D some)))
 
 module _ (L : ℕ) (handed correction faces : List ℕ) (i : ℕ) (w : MarkedBefore L handed correction faces i) where
   abbrev D : Set
@@ -50,12 +48,14 @@ module _ (L : ℕ) (handed correction faces : List ℕ) (i : ℕ) (w : MarkedBef
   earlier k h = ap (λ x. eqb x 1) (w .marks .at k h) ∙ eqb-bit (faceOf L D k)
 
   -- in row 0, and further down
-  pub mark-along : i < L → bit (eqb (getD faces (i - 1) 0) 1 ⊕ D (secondKind i)) ≡ bit (faceOf L D i)
-  mark-along first =
-      ap (λ t. bit (t ⊕ D (secondKind i))) (earlier (i - 1) (omega (arith, w .later)))
+  pub mark-along : (x : ℕ) → i < L → x ≡ bit (eqb (getD faces (i - 1) 0) 1 ⊕ D (secondKind i)) → x ≡ bit (faceOf L D i)
+  mark-along x first crossed =
+      crossed
+      ∙ ap (λ t. bit (t ⊕ D (secondKind i))) (earlier (i - 1) (omega (arith, w .later)))
       ∙ ap bit (sym (face-along L D i (w .later) first))
 
-  pub mark-down : L ≤ i → bit (eqb (getD faces (i - L) 0) 1 ⊕ D (firstKind i)) ≡ bit (faceOf L D i)
-  mark-down further =
-      ap (λ t. bit (t ⊕ D (firstKind i))) (earlier (i - L) (omega (arith, w .later, w .side .least)))
+  pub mark-down : (x : ℕ) → L ≤ i → x ≡ bit (eqb (getD faces (i - L) 0) 1 ⊕ D (firstKind i)) → x ≡ bit (faceOf L D i)
+  mark-down x further crossed =
+      crossed
+      ∙ ap (λ t. bit (t ⊕ D (firstKind i))) (earlier (i - L) (omega (arith, w .later, w .side .least)))
       ∙ ap bit (sym (face-down L D i (w .side .least) further))

@@ -1,6 +1,6 @@
 -- The answer once all tests are passed: the verdict on the torus, with the faces under same, and otherwise with the bytes as they were.
 -- Assumes nothing.
-use Prim.Native.Nat.{ℕ, _*_, _≤_, _<_}
+use Prim.Native.Nat.{ℕ, _*_, _<_}
 use mathlib.Core.Path.{_≡_, refl, sym, ap, _∙_}
 use mathlib.Core.List.{List}
 use mathlib.Core.Logic.{_⊎_, inl, inr}
@@ -11,10 +11,9 @@ use Rattle.model.specs.declared.answers.Verdict.{Verdict}
 use Rattle.model.specs.declared.answers.Verdict.the-variants.{Off, Same, Wound, Refused}
 use Rattle.model.proofs.answers.Verdict.{the-type}
 use Rattle.model.specs.Sums.{_⊕_, ones, bytes}
-use Rattle.model.specs.Board.{ValidBytes, edges}
+use Rattle.model.specs.Board.{ValidBytes}
 use Rattle.model.specs.Winding.{together}
 use Rattle.model.specs.Decoding.{corrected}
-use Rattle.model.specs.Torus.{torus}
 use Rattle.model.specs.Faces.{faceBytes}
 use Rattle.model.specs.Outcomes.{judgedOrNone}
 use Rattle.model.specs.FacesOutcomes.{torusSheet, withCorrection, sameOr}
@@ -24,7 +23,7 @@ use Rattle.verdict.specs.Judging.{Compares}
 use Rattle.verdict.proofs.VerdictAnswers.{passed-verdict}
 use Rattle.torus.proofs.TorusRows.{edge-count}
 use Rattle.torus.specs.Sides.{SideWithin}
-use Rattle.faces.specs.Lent.{OnTorus, ForFaces, Answered}
+use Rattle.faces.specs.Lent.{ForFaces, Answered}
 use Rattle.faces.proofs.BuiltTorus.{edge-bytes, sheet-valid}
 use Rattle.faces.proofs.FaceBytes.{face-bytes-cong}
 

@@ -7,7 +7,7 @@ use torus::fill_marks;
 use verdict::compare;
 ghost use mathlib.Core.Path.{_≡_};
 ghost use Prim.Native.Nat.{_*_};
-ghost use lib.ListN.{length, replicate};
+ghost use lib.ListN.{length};
 ghost use Rattle.model.specs.Lent.{before, after};
 ghost use Rattle.model.specs.FacesOutcomes.{torusSheet};
 ghost use Rattle.verdict.specs.Judging.{Compares};

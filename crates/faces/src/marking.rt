@@ -10,7 +10,6 @@ ghost use Rattle.model.specs.Lent.{before, after};
 ghost use Rattle.model.specs.Sums.{_⊕_, bit, ones};
 ghost use Rattle.model.specs.Winding.{together};
 ghost use Rattle.model.specs.Faces.{faceOf, faceBytes};
-ghost use Rattle.torus.specs.Filling.{Filled};
 ghost use Rattle.torus.specs.Sides.{SideWithin};
 ghost use Rattle.faces.specs.Marks.{MarkedBefore};
 

@@ -1,7 +1,5 @@
 -- `faces::marking::across` meets its contract: the exclusive or of three bytes. Assumes nothing.
-use native.Mathlib.Omega.{arith}
 use borrow.Author.Needs.{needs}
-use denote.Ref.{now}
 use Rattle.faces.proofs.MarkSteps.{across-byte}
 use Rattle.faces.proofs.marking.across.Statement.{statement}
 use Rattle.faces.proofs.marking.across.Tie as tie

@@ -36,7 +36,7 @@ loop-holds c =
       omega arith,
       omega (arith, some),
       simp length-set (start .pre .3),
-      first-mark _ _ (now (start .args .faces)) (start .pre .0 .least) (omega (arith, start .pre .3, some)),
+      first-mark _ _ (now (start .args .faces)) _ (start .pre .0 .least) (omega (arith, start .pre .3, some)) (search needs),
     )
 
 cast-number : tie.Need-cast-number Inv-loop μ-loop

@@ -1,5 +1,4 @@
 -- `faces::marking::mark_of` meets its contract: in row 0 from the face to the left, further down from the one above. Assumes nothing.
-use mathlib.Core.Path.{_∙_}
 use native.Mathlib.Omega.{arith}
 use borrow.Author.Needs.{needs}
 use denote.Ref.{now}
@@ -34,9 +33,8 @@ returns : tie.Need-returns
 returns c =
     let start = c .before .before .before .before .before .before .before .before in
     let a = start .args in
-    c .across .ensures
-    ∙ mark-along (a .side) (now (a .handed)) (now (a .correction)) (now (a .faces)) (a .face .0) (start .pre)
-    (c .before .before .before .if1 .taken)
+    mark-along (a .side) (now (a .handed)) (now (a .correction)) (now (a .faces)) (a .face .0) (start .pre) _
+    (c .before .before .before .if1 .taken) (c .across .ensures)
 
 mul-upper : tie.Need-mul-upper
 mul-upper c =
@@ -57,9 +55,8 @@ returns-2 : tie.Need-returns-2
 returns-2 c =
     let start = c .before .before .before .before .before .before .before .before in
     let a = start .args in
-    c .across2 .ensures
-    ∙ mark-down (a .side) (now (a .handed)) (now (a .correction)) (now (a .faces)) (a .face .0) (start .pre)
-    (c .before .before .before .if1 .left)
+    mark-down (a .side) (now (a .handed)) (now (a .correction)) (now (a .faces)) (a .face .0) (start .pre) _
+    (c .before .before .before .if1 .left) (c .across2 .ensures)
 
 pub mark-of-spec : {M : Type 1} → statement M
 mark-of-spec =
