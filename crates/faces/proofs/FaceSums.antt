@@ -15,14 +15,13 @@ use Rattle.model.specs.Winding.{winds}
 use Rattle.model.specs.Torus.{row, column, rightOf, below, torus}
 use Rattle.model.specs.Faces.{firstKind, secondKind, inFace, faceSum, MakesUp, complement}
 use Rattle.model.proofs.Xor.{xor-false, xor-swap, equal-xor}
-use Rattle.model.proofs.SumLaws.{odd-cong}
+use Rattle.model.proofs.SumLaws.{odd-cong, odd-two}
 use Rattle.theory.proofs.Syndromes.{has-syndrome-cong}
 use Rattle.theory.proofs.CrossedLines.{lineA, lineB, Closed, Unmarked, unmarked-unwound, winds-cong}
 use Rattle.torus.proofs.Numbering.{row-less}
 use Rattle.torus.proofs.TorusRows.{edge-count, inside}
 use Rattle.torus.proofs.TorusCells.{prev, prev-less, leftOf, aboveOf, left-at, above-at, left-less, above-less}
 use Rattle.torus.proofs.TorusCells.{eqb-alike, eqb-turned, right-turned, below-turned}
-use Rattle.torus.proofs.VertexSums.{odd-two}
 use Rattle.torus.proofs.Cycles.{odd-round}
 use Rattle.torus.proofs.TorusStar.{torus-star}
 use Rattle.torus.proofs.TorusLines.{line-A, line-B}

@@ -4,12 +4,12 @@ use mathlib.Core.Path.{_≡_, refl, sym, ap, ap₂, _∙_}
 use mathlib.Core.Bool.{Bool, true, false, cond, _&&_, _||_, and-true, and-false, or-false, false≢true}
 use mathlib.Core.Logic.{⊎-elim}
 use mathlib.Core.Option.{Option, none, some, Option·none-ne-some, Option·some-ne-none}
-use native.Mathlib.Nat.{le-refl, le-of-suc-le-suc, not-suc-le-zero, eq-or-lt-of-le, add-zero, add-suc, zero-mul, suc-mul}
+use native.Mathlib.Nat.{le-refl, le-of-suc-le-suc, not-suc-le-zero, eq-or-lt-of-le, add-zero, add-suc, zero-mul, suc-mul, mul-comm}
 use native.Mathlib.Omega.{arith}
 use borrow.Author.Tests.{eq-eqb, ne-eqb}
 use lib.Dec.{eqb}
 use Rattle.model.specs.Sums.{Set, _⊕_, bit, oddUpTo, countUpTo, someUpTo, orElse, firstUpTo}
-use Rattle.model.proofs.Xor.{xor-false, xor-assoc, xor-swap, not-true-false}
+use Rattle.model.proofs.Xor.{xor-false, xor-assoc, xor-swap, and-xor, not-true-false}
 use Rattle.model.proofs.Bits.{bit-bound}
 
 -- i below suc n is below n, or n itself
@@ -58,6 +58,13 @@ odd-at (suc n) a f h =
     (λ l. rw (odd-at n a f l, ne-eqb a n (λ q. omega arith), and-false) (xor-false (f a)))
     (λ q. rw (odd-none n (λ i. f i && eqb a i) (λ i l. rw (ne-eqb a i (λ p. omega arith)) (and-false (f i))), eq-eqb a n q, q) (and-true (f n)))
 
+-- the sum over the numbers a and b, which cancel where they are one
+pub odd-two : (n a b : ℕ) (f : Set) → a < n → b < n → oddUpTo n (λ i. f i && (eqb a i ⊕ eqb b i)) ≡ f a ⊕ f b
+odd-two n a b f at-a at-b =
+    odd-cong n (λ i. f i && (eqb a i ⊕ eqb b i)) (λ i. (f i && eqb a i) ⊕ (f i && eqb b i)) (λ i h. and-xor (f i) (eqb a i) (eqb b i))
+    ∙ odd-xor n (λ i. f i && eqb a i) (λ i. f i && eqb b i)
+    ∙ ap₂ _⊕_ (odd-at n a f at-a) (odd-at n b f at-b)
+
 -- the first a numbers, then b more
 pub odd-append : (a b : ℕ) (f : Set) → oddUpTo (a + b) f ≡ oddUpTo a f ⊕ oddUpTo b (λ i. f (a + i))
 unfolding oddUpTo
@@ -70,6 +77,20 @@ pub odd-blocks : (R m : ℕ) (f : Set) → oddUpTo (R * m) f ≡ oddUpTo R (λ k
 unfolding oddUpTo
 odd-blocks zero m f = rw (zero-mul m)
 odd-blocks (suc R) m f = rw (suc-mul R m, odd-append (R * m) m f, odd-blocks R m f)
+
+-- the numbers below 2n, two by two
+pub odd-pairs : (n : ℕ) (f : Set) → oddUpTo (2 * n) f ≡ oddUpTo n (λ i. f (2 * i) ⊕ f (2 * i + 1))
+unfolding oddUpTo
+odd-pairs n f =
+    ap (λ m. oddUpTo m f) (mul-comm 2 n)
+    ∙ odd-blocks n 2 f
+    ∙ odd-cong n (λ i. f (i * 2 + 0) ⊕ f (i * 2 + 1)) (λ i. f (2 * i) ⊕ f (2 * i + 1)) (λ i h. pair i)
+  where
+    pair : (i : ℕ) → f (i * 2 + 0) ⊕ f (i * 2 + 1) ≡ f (2 * i) ⊕ f (2 * i + 1)
+    pair i =
+        let low : i * 2 + 0 ≡ 2 * i = omega arith in
+        let high : i * 2 + 1 ≡ 2 * i + 1 = omega arith in
+        ap₂ (λ x y. f x ⊕ f y) low high
 
 -- Counts
 

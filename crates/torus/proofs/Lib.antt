@@ -6,7 +6,6 @@ pub mod Writing
 pub mod TorusRows
 pub mod TorusValid
 pub mod TorusCells
-pub mod VertexSums
 pub mod Cycles
 pub mod TorusStar
 pub mod TorusLines
