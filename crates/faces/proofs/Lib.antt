@@ -10,3 +10,4 @@ pub mod BuiltTorus
 pub mod AsVerdict
 pub mod MarkedFaces
 pub mod FacesOutcome
+pub mod NoneAtZero

@@ -10,5 +10,6 @@ pub mod Cycles
 pub mod TorusStar
 pub mod TorusLines
 pub mod Columns
+pub mod TorusConnected
 pub mod TorusLoop
 pub mod TorusDistance

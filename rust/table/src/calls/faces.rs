@@ -85,11 +85,11 @@ fn vertices_of(side: u32) -> Result<usize, Refusal> {
     }
 }
 
-/// Whether the call may refuse so on the torus of so many vertices.
+/// Whether the call may refuse so on the torus of so many vertices, which is one part.
 fn refuses(refusal: Refusal, vertices: usize) -> bool {
     match refusal {
-        Refusal::BufferLength => true,
-        Refusal::SyndromeByte(vertex) | Refusal::NoCorrection(vertex) => vertex < vertices,
+        Refusal::BufferLength | Refusal::NoCorrection(0) => true,
+        Refusal::SyndromeByte(vertex) => vertex < vertices,
         Refusal::LossByte(edge) | Refusal::HandedByte(edge) => edge < 2 * vertices,
         _ => false,
     }
@@ -203,9 +203,9 @@ mod tests {
     }
 
     #[test]
-    #[should_panic(expected = "returned 0x90a, which this call never answers")]
-    fn odd_part_past_the_last() {
-        let _ = unpack_faces(10 | 9 << 8, 3);
+    #[should_panic(expected = "returned 0x10a, which this call never answers")]
+    fn second_part() {
+        let _ = unpack_faces(10 | 1 << 8, 3);
     }
 
     #[test]
