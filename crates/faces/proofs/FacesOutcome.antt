@@ -1,14 +1,13 @@
 -- The outcome of the verdict with faces, where a test fails and where all pass, and what may be relied on of it. Assumes nothing.
 use Prim.Native.Nat.{ℕ, _*_, _≤_}
 use mathlib.Core.Path.{_≡_, refl, sym, ap, subst, _∙_}
-use mathlib.Core.Bool.{true, false, false≢true}
 use mathlib.Core.List.{List}
 use mathlib.Core.Option.{none, some}
 use native.Mathlib.Nat.{mul-le-mul}
 use lib.ListN.{length, getD}
 use Rattle.model.specs.declared.refusal.Refusal.{Refusal}
 use Rattle.model.specs.declared.answers.Verdict.{Verdict}
-use Rattle.model.specs.declared.answers.Verdict.the-variants.{Same, Wound, Refused}
+use Rattle.model.specs.declared.answers.Verdict.the-variants.{Same, Refused}
 use Rattle.model.specs.Sums.{Set, bit, ones}
 use Rattle.model.specs.Board.{Sheet}
 use Rattle.model.specs.Decoding.{corrected}
@@ -23,20 +22,16 @@ use Rattle.model.proofs.ListLaws.{getD-values}
 use Rattle.verdict.proofs.SoundVerdicts.{judges-sound}
 use Rattle.faces.specs.Lent.{Answered}
 use Rattle.faces.proofs.FaceSteps.{face-0-out}
-use Rattle.faces.proofs.FaceSums.{made-up-unwound}
+use Rattle.faces.proofs.OnlySame.{faces-are-same}
 use Rattle.faces.proofs.FacesExactly.{faces-make-up}
 use Rattle.faces.proofs.FaceBytes.{bytes-make-up}
 use Rattle.faces.proofs.FaceTests.{faces-passes}
 use Rattle.faces.proofs.AsVerdict.{refuses-alike}
 
 -- an answer that is no refusal: no test fails
-same-passed : (t : Test) (a : Verdict) → Same ≡ answer t Refused a → t ≡ none
-same-passed none a q = refl
-same-passed (some n) a q = zero-one (cc)
-
-wound-passed : (t : Test) (a : Verdict) (x : ℕ) → Wound x ≡ answer t Refused a → t ≡ none
-wound-passed none a x q = refl
-wound-passed (some n) a x q = zero-one (cc)
+none-fails : (t : Test) (a r : Verdict) → r ≡ answer t Refused a → ((n : Refusal) → r ≡ Refused n → ⊥) → t ≡ none
+none-fails none a r q unrefused = refl
+none-fails (some n) a r q unrefused = absurd (unrefused n q)
 
 -- face 0 has byte 0
 first-byte : (L : ℕ) (D : Set) → 1 ≤ L → getD (faceBytes L D) 0 1 ≡ 0
@@ -78,7 +73,7 @@ module _ (L : ℕ) (syndrome loss handed faces : List ℕ) where
     module _ (same : r ≡ Same) where
       same-passes : facesRefusal L syndrome loss handed faces ≡ none
       unfolding facesAnswer
-      same-passes = same-passed _ _ (sym same ∙ shows .result)
+      same-passes = none-fails _ _ r (shows .result) (λ n p. zero-one (cc))
 
       same-side : 1 ≤ L
       same-side = faces-passes L syndrome loss handed faces same-passes .lent .side .least
@@ -91,12 +86,11 @@ module _ (L : ℕ) (syndrome loss handed faces : List ℕ) where
       without-0 : getD faces′ 0 1 ≡ 0
       without-0 = ap (λ l. getD l 0 1) (filled same) ∙ first-byte L D same-side
 
-    never-wound : (x : ℕ) → r ≡ Wound x → (f : Set) → MakesUp L f D → ⊥
+    only-same : (f : Set) → MakesUp L f D → ((n : Refusal) → r ≡ Refused n → ⊥) → r ≡ Same
     unfolding facesAnswer
-    never-wound x wound f makes =
-        let passes = wound-passed _ _ x (sym wound ∙ shows .result) in
-        let side = faces-passes L syndrome loss handed faces passes .lent .side in
-        false≢true (sym (made-up-unwound L (side .least) f D makes) ∙ relied passes .wound x wound .1)
+    only-same f makes unrefused =
+        let p = none-fails _ _ r (shows .result) unrefused in
+        faces-are-same L syndrome loss handed (faces-passes L syndrome loss handed faces p .lent) f makes r (shows .result ∙ rw p) unrefused
 
     soundly : FacesSoundly L syndrome loss handed faces r faces′
     soundly =
@@ -105,7 +99,7 @@ module _ (L : ℕ) (syndrome loss handed faces : List ℕ) where
           sound = λ least most long. judges-sound X handed r (as-verdict least most long);
           made-up = made-up;
           without-0 = without-0;
-          never-wound = never-wound;
+          only-same = only-same;
         }
 
   -- what the call promises

@@ -9,5 +9,6 @@ pub mod FaceTests
 pub mod BuiltTorus
 pub mod AsVerdict
 pub mod MarkedFaces
+pub mod OnlySame
 pub mod FacesOutcome
 pub mod NoneAtZero

@@ -4,6 +4,7 @@ use Prim.Native.Nat.{ℕ, _*_, _≤_}
 use mathlib.Core.Path.{_≡_}
 use mathlib.Core.List.{List}
 use lib.ListN.{length, getD}
+use Rattle.model.specs.declared.refusal.Refusal.{Refusal}
 use Rattle.model.specs.declared.answers.Verdict.{Verdict}
 use Rattle.model.specs.declared.answers.Verdict.the-variants.{Off, Same, Wound, Refused}
 use Rattle.model.specs.Sums.{Set, ones}
@@ -40,10 +41,11 @@ pub record ShowsFaces (L : ℕ) (syndrome loss handed faces : List ℕ) (r : Ver
   pub faces-filled : faces′ ≡ sameOr r (faceBytes L (withCorrection L syndrome loss handed)) faces
 
 -- What a group may rely on. Where the side is in range and there is a byte for each face, the answer is the verdict's on that torus, and as
--- sound as that. Under same the faces written make up the two sets together, and face 0 is not one of them; under wound no faces do.
+-- sound as that. Under same the faces written make up the two sets together, and face 0 is not one of them; and where any faces make them
+-- up the answer is same, if nothing is refused: off and wound have no such evidence.
 pub record FacesSoundly (L : ℕ) (syndrome loss handed faces : List ℕ) (r : Verdict) (faces′ : List ℕ) : Type 0 where
   pub as-verdict : leastSide ≤ L → L ≤ largestSide → length faces ≡ L * L → Judges (torusSheet L syndrome loss) handed r
   pub sound : leastSide ≤ L → L ≤ largestSide → length faces ≡ L * L → JudgesSoundly (torusSheet L syndrome loss) handed r
   pub made-up : r ≡ Same → MakesUp L (ones faces′) (withCorrection L syndrome loss handed)
   pub without-0 : r ≡ Same → getD faces′ 0 1 ≡ 0
-  pub never-wound : (x : ℕ) → r ≡ Wound x → (f : Set) → MakesUp L f (withCorrection L syndrome loss handed) → ⊥
+  pub only-same : (f : Set) → MakesUp L f (withCorrection L syndrome loss handed) → ((n : Refusal) → r ≡ Refused n → ⊥) → r ≡ Same
