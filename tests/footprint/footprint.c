@@ -163,8 +163,8 @@ static void measure_faces_as(uint32_t verdict)
         abort();
 }
 
-/* The verdict with faces on the torus at hand: on no edges; same, on the correction; wound, on the first row too. Then a handed-in byte above
- * 1, an odd number of lit vertices, and a buffer too long. */
+/* The verdict with faces on the torus at hand: on no edges; same, on the correction; wound, on the first row too. Then a handed-in byte
+ * above 1, an odd number of lit vertices, and a buffer too long. */
 static void measure_faces(void)
 {
     measure(FACES);

@@ -14,14 +14,11 @@ use Rattle.model.specs.Sums.{Set, ones, firstUpTo}
 use Rattle.model.specs.Board.{Board, Inside, Valid, ValidBytes, Unlit, Sheet, edges, firstEnd, mark, isOpen, vertexLimit, edgeLimit}
 use Rattle.model.specs.Refusals.{unless, refusedAt, firstPlace, outside, above, litOpen, sized, edgesOf, boardSized, countRules, edgeRules, openRules}
 use Rattle.model.proofs.Xor.{and-left, and-right, and-both}
+use Rattle.model.proofs.RuleLists.{unless-passes}
 use Rattle.model.proofs.SumLaws.{first-none, none-first}
 use Rattle.board.proofs.Failures.{Each}
 
--- a test by a flag passes exactly where the flag is set
-pub unless-passes : (ok : Bool) (n : Refusal) → unless ok n ≡ none → ok ≡ true
-unless-passes true n p = refl
-unless-passes false n p = absurd (Option·some-ne-none n p)
-
+-- a test by a flag passes where the flag is set
 passes-unless : (ok : Bool) (n : Refusal) → ok ≡ true → unless ok n ≡ none
 passes-unless ok n p = rw p
 

@@ -2,7 +2,7 @@
 use Prim.Native.Nat.{ℕ, _≤_, _<_}
 use mathlib.Core.Path.{_≡_, refl, sym, ap, _∙_}
 use mathlib.Core.List.{List, [], _++_, append-nil}
-use mathlib.Core.Option.{Option, none, some}
+use mathlib.Core.Option.{none, some}
 use native.Mathlib.Omega.{arith}
 use lib.ListN.{length, take, drop}
 use lib.Seq.{drop-length}
@@ -12,9 +12,10 @@ use Rattle.model.specs.declared.answers.Distance.the-variants.{Fewest, Nothing,
 use Rattle.model.specs.Board.{Board, Inside, edges, edgeLimit}
 use Rattle.model.specs.Distance.{fewest}
 use Rattle.model.specs.Identified.{identified}
-use Rattle.model.specs.Refusals.{Test, distanceRefusal}
-use Rattle.model.specs.Outcomes.{answer, distanceOf, distanceAnswer, Shows, Measures}
+use Rattle.model.specs.Refusals.{distanceRefusal}
+use Rattle.model.specs.Outcomes.{distanceOf, distanceAnswer, Shows, Measures}
 use Rattle.model.proofs.Contradiction.{zero-one}
+use Rattle.model.proofs.Places.{answer-passed}
 use Rattle.theory.proofs.Identified.{fewest-identified, shows-identified}
 use Rattle.board.proofs.Calls.{ForDistance, distance-passes}
 use Rattle.distance.specs.Walking.{noLoop}
@@ -44,20 +45,13 @@ module _ (B : Board) (shown : List ℕ) (p : distanceRefusal B shown ≡ none) (
 
 -- the copy
 
--- before an answer that is no refusal the tests have passed
-passed :
-    (t : Test) (f : Option ℕ) (r : Distance) → r ≡ answer t Refused (distanceOf f) → ((n : Refusal) → r ≡ Refused n → ⊥) →
-    t ≡ none
-passed none f r p apart = refl
-passed (some n) f r p apart = absurd (apart n p)
-
 module _ (B : Board) (shown found : List ℕ) where
   -- the answer where the tests are told of that buffer
   abbrev pub AnsweredFor : Distance → Type 0
   AnsweredFor r = Answered B shown r found
 
   lent : (r : Distance) → AnsweredFor r → ((n : Refusal) → r ≡ Refused n → ⊥) → ForDistance B shown
-  lent r a apart = distance-passes B shown (passed _ (fewest B) r (a .result) apart)
+  lent r a apart = distance-passes B shown (answer-passed _ (distanceOf (fewest B)) r (a .result) apart)
 
   -- a byte for each edge: there is room for them, and they are all that the buffer holds
   room : length found ≡ edgeLimit → ForDistance B shown → (edges B ≤ length found) × (edges B ≤ length shown)

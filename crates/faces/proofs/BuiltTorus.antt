@@ -13,10 +13,10 @@ use Rattle.model.proofs.OpenBytes.{none-open}
 use Rattle.verdict.specs.Judging.{Comparable, Compares}
 use Rattle.torus.proofs.TorusRows.{edge-count}
 use Rattle.torus.proofs.TorusValid.{torus-valid}
-use Rattle.faces.specs.Lent.{OnTorus, TorusLent}
+use Rattle.faces.specs.Lent.{OnTorus, TorusLent, Judged}
 
 -- what is built is the torus
-pub built : (L : ℕ) (ends marks opened : List ℕ) → ends ≡ torusEnds L → marks ≡ torusMarks L → opened ≡ replicate (L * L) 0
+built : (L : ℕ) (ends marks opened : List ℕ) → ends ≡ torusEnds L → marks ≡ torusMarks L → opened ≡ replicate (L * L) 0
     → boardOf (L * L) ends marks opened ≡ torus L
 unfolding torus
 built L ends marks opened p q r = rw (p, q, r)
@@ -57,6 +57,9 @@ module _ (L : ℕ) (syndrome loss handed : List ℕ) (w : OnTorus L syndrome los
           correction-long = t .correction-sized ∙ sym (edge-count L);
         })
 
-    pub compared : (r : Verdict) (correction′ : List ℕ) → Compares (sheetOf (boardOf (L * L) ends′ marks′ opened) syndrome loss) handed r correction′
-        → Compares (torusSheet L syndrome loss) handed r correction′
-    compared r correction′ k = subst (λ B. Compares (sheetOf B syndrome loss) handed r correction′) is-torus k
+    pub compared : (r : Verdict) (support′ correction′ : List ℕ)
+        → Compares (sheetOf (boardOf (L * L) ends′ marks′ opened) syndrome loss) handed support correction r support′ correction′
+        → Judged L syndrome loss handed correction r correction′
+    compared r support′ correction′ k =
+        let on-torus = subst (λ B. Compares (sheetOf B syndrome loss) handed support correction r support′ correction′) is-torus k in
+        record { judges = on-torus .judges; correction-bytes = on-torus .correction-bytes }

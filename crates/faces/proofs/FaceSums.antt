@@ -1,6 +1,6 @@
--- The sum of a set of faces: an edge lies in it exactly where one of the two faces beside it is taken and the other is not. So a set of faces
--- and its complement have one sum, and a sum of faces is closed and crosses each line an even number of times. At side 1, where the one face
--- is beside itself, the sum is empty.
+-- The sum of a set of faces: an edge lies in it exactly where one of the two faces beside it is taken and the other is not. So a set of
+-- faces and its complement have one sum, and a sum of faces is closed and crosses each line an even number of times. At side 1, where the
+-- one face is beside itself, the sum is empty.
 -- Assumes nothing.
 use Prim.Native.Nat.{ℕ, _+_, _*_, _-_, _≤_, _<_}
 use mathlib.Core.Path.{_≡_, refl, sym, ap, ap₂, _∙_}
@@ -15,17 +15,18 @@ use Rattle.model.specs.Winding.{winds}
 use Rattle.model.specs.Torus.{row, column, rightOf, below, torus}
 use Rattle.model.specs.Faces.{firstKind, secondKind, inFace, faceSum, MakesUp, complement}
 use Rattle.model.proofs.Xor.{xor-false, xor-swap, equal-xor}
+use Rattle.model.proofs.EqualTests.{eqb-alike, eqb-turned}
 use Rattle.model.proofs.SumLaws.{odd-cong, odd-two}
 use Rattle.theory.proofs.Syndromes.{has-syndrome-cong}
 use Rattle.theory.proofs.CrossedLines.{lineA, lineB, Closed, Unmarked, unmarked-unwound, winds-cong}
 use Rattle.torus.proofs.Numbering.{row-less}
 use Rattle.torus.proofs.TorusRows.{edge-count, inside}
 use Rattle.torus.proofs.TorusCells.{prev, prev-less, leftOf, aboveOf, left-at, above-at, left-less, above-less}
-use Rattle.torus.proofs.TorusCells.{eqb-alike, eqb-turned, right-turned, below-turned}
+use Rattle.torus.proofs.TorusCells.{right-turned, below-turned}
 use Rattle.torus.proofs.Cycles.{odd-round}
 use Rattle.torus.proofs.TorusStar.{torus-star}
 use Rattle.torus.proofs.TorusLines.{line-A, line-B}
-use Rattle.faces.proofs.EveryEdge.{every-edge}
+use Rattle.torus.proofs.EveryEdge.{every-edge}
 
 -- edges of one kind are equal where their vertices are, and edges of two kinds never
 first-eqb : (i v : ℕ) → eqb (firstKind i) (firstKind v) ≡ eqb i v

@@ -13,9 +13,9 @@ use Rattle.model.specs.Sums.{orElse}
 use Rattle.model.specs.Board.{vertexLimit, edgeLimit}
 use Rattle.model.specs.Refusals.{refusalOf, sized, sideRule, handedRule, byteRules, facesSized, torusByteRules, facesRefusal}
 use Rattle.model.proofs.Xor.{and-left, and-right}
-use Rattle.model.proofs.RuleLists.{refusal-append}
+use Rattle.model.proofs.RuleLists.{unless-passes, refusal-append}
 use Rattle.board.proofs.Failures.{each-passes}
-use Rattle.board.proofs.Passing.{unless-passes, bytes-say}
+use Rattle.board.proofs.Passing.{bytes-say}
 use Rattle.torus.specs.Sides.{SideWithin}
 use Rattle.torus.proofs.Numbering.{square-limit}
 use Rattle.torus.proofs.SideRefused.{passed-within}
@@ -40,16 +40,16 @@ module _ (L : ℕ) (syndrome loss handed faces : List ℕ) where
     sets-fit : (sized loss (2 * (L * L)) && sized handed (2 * (L * L))) ≡ true
     sets-fit = and-right (sized syndrome (L * L) && sized faces (L * L)) _ fit
 
-    pub syndrome-long : length syndrome ≡ L * L
+    syndrome-long : length syndrome ≡ L * L
     syndrome-long = eqb-true _ _ (and-left (sized syndrome (L * L)) _ cells-fit)
 
-    pub faces-long : length faces ≡ L * L
+    faces-long : length faces ≡ L * L
     faces-long = eqb-true _ _ (and-right (sized syndrome (L * L)) _ cells-fit)
 
-    pub loss-long : length loss ≡ 2 * (L * L)
+    loss-long : length loss ≡ 2 * (L * L)
     loss-long = eqb-true _ _ (and-left (sized loss (2 * (L * L))) _ sets-fit)
 
-    pub handed-long : length handed ≡ 2 * (L * L)
+    handed-long : length handed ≡ 2 * (L * L)
     handed-long = eqb-true _ _ (and-right (sized loss (2 * (L * L))) _ sets-fit)
 
     -- so few that the tests of the bytes can number them

@@ -1,7 +1,7 @@
--- A closed set that crosses each line an even number of times is made up of faces: those that are told by going along the first row and down
--- each column. That the mark changes where an edge of the set is crossed holds down the columns by definition, and along each row since it
--- does along the one above and an even number of edges meets at each vertex; from the last row back to the first and from the last column
--- back to the first it holds since every column and every row has an even number of edges of the set to be crossed.
+-- A closed set that crosses each line an even number of times is made up of faces: those that are told by going along the first row and
+-- down each column. That the mark changes where an edge of the set is crossed holds down the columns by definition, and along each row
+-- since it does along the one above and an even number of edges meets at each vertex; from the last row back to the first and from the last
+-- column back to the first it holds since every column and every row has an even number of edges of the set to be crossed.
 -- Assumes nothing.
 use Prim.Native.Nat.{ℕ, zero, suc, _+_, _*_, _≤_, _<_}
 use mathlib.Core.Path.{_≡_, sym, ap, ap₂, _∙_}
@@ -17,7 +17,7 @@ use Rattle.torus.proofs.TorusRows.{row-of, column-of}
 use Rattle.torus.proofs.TorusCells.{prev, prev-less}
 use Rattle.torus.proofs.Cycles.{round-back}
 use Rattle.torus.proofs.Columns.{firstAt, secondAt, even-at, column-law, row-law}
-use Rattle.faces.proofs.EveryEdge.{every-vertex, every-edge}
+use Rattle.torus.proofs.EveryEdge.{every-vertex, every-edge}
 use Rattle.faces.proofs.FaceSums.{face-sum-first-at, face-sum-second-at}
 
 -- what is added differs from the start by what was added

@@ -9,18 +9,13 @@ use native.Mathlib.Omega.{arith}
 use Rattle.model.specs.Sums.{Set, _⊕_}
 use Rattle.model.specs.Winding.{closed, winds}
 use Rattle.model.specs.Torus.{torus}
-use Rattle.model.specs.Faces.{firstKind, secondKind, MakesUp, complement, faceAt, faceOf}
+use Rattle.model.specs.Faces.{firstKind, secondKind, MakesUp, MadeOfFaces, complement, faceAt, faceOf}
 use Rattle.theory.proofs.CrossedLines.{true-closed, unwound-unmarked}
 use Rattle.theory.proofs.Totals.{xor-cancel}
 use Rattle.torus.proofs.TorusRows.{inside}
-use Rattle.faces.proofs.EveryEdge.{every-vertex}
+use Rattle.torus.proofs.EveryEdge.{every-vertex}
 use Rattle.faces.proofs.FaceSums.{face-sum-first-at, face-sum-second-at, complement-sum, made-up-unwound}
 use Rattle.faces.proofs.FacesBack.{face-at, faces-back}
-
--- some faces make up D
-pub record MadeOfFaces (L : ℕ) (D : Set) : Type 0 where
-  pub faces : Set
-  pub make-up : MakesUp L faces D
 
 pub faces-make-up : (L : ℕ) → 1 ≤ L → (D : Set) → closed (torus L) D ≡ true → winds (torus L) D ≡ false → MakesUp L (faceOf L D) D
 faces-make-up L some D shut unwound =

@@ -14,11 +14,12 @@ use Rattle.model.specs.Decoding.{corrected}
 use Rattle.model.specs.Verdict.{SoundVerdict}
 use Rattle.model.specs.Torus.{leastSide, largestSide, torus}
 use Rattle.model.specs.Faces.{MakesUp, faceOf, faceBytes}
-use Rattle.model.specs.Refusals.{Test, facesRefusal}
+use Rattle.model.specs.Refusals.{facesRefusal}
 use Rattle.model.specs.Outcomes.{answer, judgedOrNone, verdictAnswer, Judges}
 use Rattle.model.specs.FacesOutcomes.{torusSheet, facesAnswer, withCorrection, sameOr, ShowsFaces, FacesSoundly}
 use Rattle.model.proofs.Contradiction.{zero-one}
 use Rattle.model.proofs.ListLaws.{getD-values}
+use Rattle.model.proofs.Places.{answer-passed}
 use Rattle.verdict.proofs.SoundVerdicts.{judges-sound}
 use Rattle.faces.specs.Lent.{Answered}
 use Rattle.faces.proofs.FaceSteps.{face-0-out}
@@ -27,11 +28,6 @@ use Rattle.faces.proofs.FacesExactly.{faces-make-up}
 use Rattle.faces.proofs.FaceBytes.{bytes-make-up}
 use Rattle.faces.proofs.FaceTests.{faces-passes}
 use Rattle.faces.proofs.AsVerdict.{refuses-alike}
-
--- an answer that is no refusal: no test fails
-none-fails : (t : Test) (a r : Verdict) → r ≡ answer t Refused a → ((n : Refusal) → r ≡ Refused n → ⊥) → t ≡ none
-none-fails none a r q unrefused = refl
-none-fails (some n) a r q unrefused = absurd (unrefused n q)
 
 -- face 0 has byte 0
 first-byte : (L : ℕ) (D : Set) → 1 ≤ L → getD (faceBytes L D) 0 1 ≡ 0
@@ -73,7 +69,7 @@ module _ (L : ℕ) (syndrome loss handed faces : List ℕ) where
     module _ (same : r ≡ Same) where
       same-passes : facesRefusal L syndrome loss handed faces ≡ none
       unfolding facesAnswer
-      same-passes = none-fails _ _ r (shows .result) (λ n p. zero-one (cc))
+      same-passes = answer-passed _ _ r (shows .result) (λ n p. zero-one (cc))
 
       same-side : 1 ≤ L
       same-side = faces-passes L syndrome loss handed faces same-passes .lent .side .least
@@ -89,7 +85,7 @@ module _ (L : ℕ) (syndrome loss handed faces : List ℕ) where
     only-same : (f : Set) → MakesUp L f D → ((n : Refusal) → r ≡ Refused n → ⊥) → r ≡ Same
     unfolding facesAnswer
     only-same f makes unrefused =
-        let p = none-fails _ _ r (shows .result) unrefused in
+        let p = answer-passed _ _ r (shows .result) unrefused in
         faces-are-same L syndrome loss handed (faces-passes L syndrome loss handed faces p .lent) f makes r (shows .result ∙ rw p) unrefused
 
     soundly : FacesSoundly L syndrome loss handed faces r faces′

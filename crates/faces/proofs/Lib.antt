@@ -1,5 +1,4 @@
 pub mod FaceSteps
-pub mod EveryEdge
 pub mod FaceSums
 pub mod FacesBack
 pub mod FacesExactly

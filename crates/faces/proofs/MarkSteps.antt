@@ -26,8 +26,8 @@ across-byte m a b p q r =
     ∙ ap bit (xor-assoc (eqb m 1) (eqb a 1) (eqb b 1))
 
 -- face 0 has no mark
-pub first-mark : (L : ℕ) (D : Set) (l : List ℕ) (x : ℕ) → 1 ≤ L → 0 < length l → x ≡ 0 → Filled (λ k. bit (faceOf L D k)) 1 (set l 0 x)
-first-mark L D l x some long unmarked = filled-more 0 x (filled-none _ l) refl long (unmarked ∙ sym (ap bit (face-0-out L D some)))
+pub starts-unmarked : (L : ℕ) (D : Set) (l : List ℕ) (x : ℕ) → 1 ≤ L → 0 < length l → x ≡ 0 → Filled (λ k. bit (faceOf L D k)) 1 (set l 0 x)
+starts-unmarked L D l x some long unmarked = filled-more 0 x (filled-none _ l) refl long (unmarked ∙ sym (ap bit (face-0-out L D some)))
 
 module _ (L : ℕ) (handed correction faces : List ℕ) (i : ℕ) (w : MarkedBefore L handed correction faces i) where
   abbrev D : Set

@@ -11,19 +11,20 @@ use Rattle.model.specs.declared.answers.Verdict.{Verdict}
 use Rattle.model.specs.declared.answers.Verdict.the-variants.{Off, Same, Wound, Refused}
 use Rattle.model.proofs.answers.Verdict.{the-type}
 use Rattle.model.specs.Sums.{_⊕_, ones, bytes}
-use Rattle.model.specs.Board.{ValidBytes}
+use Rattle.model.specs.Board.{ValidBytes, edges}
 use Rattle.model.specs.Winding.{together}
 use Rattle.model.specs.Decoding.{corrected}
+use Rattle.model.specs.Torus.{torus}
 use Rattle.model.specs.Faces.{faceBytes}
 use Rattle.model.specs.Outcomes.{judgedOrNone}
 use Rattle.model.specs.FacesOutcomes.{torusSheet, withCorrection, sameOr}
 use Rattle.model.proofs.ListLaws.{ones-bytes, bytes-valid}
 use Rattle.board.proofs.Calls.{passes-verdict}
-use Rattle.verdict.specs.Judging.{Compares}
+use Rattle.verdict.specs.Judging.{decodedOr}
 use Rattle.verdict.proofs.VerdictAnswers.{passed-verdict}
 use Rattle.torus.proofs.TorusRows.{edge-count}
 use Rattle.torus.specs.Sides.{SideWithin}
-use Rattle.faces.specs.Lent.{ForFaces, Answered}
+use Rattle.faces.specs.Lent.{ForFaces, Judged, Answered}
 use Rattle.faces.proofs.BuiltTorus.{edge-bytes, sheet-valid}
 use Rattle.faces.proofs.FaceBytes.{face-bytes-cong}
 
@@ -38,7 +39,7 @@ others-leave (Wound x) new old w = refl
 others-leave (Refused n) new old w = refl
 
 module _ (L : ℕ) (syndrome loss handed faces : List ℕ) (w : ForFaces L syndrome loss handed faces)
-    (r : Verdict) (correction′ : List ℕ) (k : Compares (torusSheet L syndrome loss) handed r correction′) where
+    (correction : List ℕ) (r : Verdict) (correction′ : List ℕ) (k : Judged L syndrome loss handed correction r correction′) where
   answer-is : r ≡ judgedOrNone (torusSheet L syndrome loss) handed
   answer-is =
       k .judges .result
@@ -49,7 +50,10 @@ module _ (L : ℕ) (syndrome loss handed faces : List ℕ) (w : ForFaces L syndr
   module _ (same : r ≡ Same) where
     -- the correction stands in its buffer
     written : correction′ ≡ bytes (2 * (L * L)) (corrected (torusSheet L syndrome loss))
-    written = k .corrected-bytes same ∙ ap (λ m. bytes m (corrected (torusSheet L syndrome loss))) (edge-count L)
+    written =
+        k .correction-bytes
+        ∙ ap (λ v. decodedOr v (bytes (edges (torus L)) (corrected (torusSheet L syndrome loss))) correction) same
+        ∙ ap (λ m. bytes m (corrected (torusSheet L syndrome loss))) (edge-count L)
 
     pub markable : SideWithin L × ValidBytes (2 * (L * L)) handed × ValidBytes (2 * (L * L)) correction′ × (length faces ≡ L * L)
     markable = (

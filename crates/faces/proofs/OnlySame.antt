@@ -1,5 +1,5 @@
--- Where some faces make up the handed-in set and the correction together, and nothing is refused, the verdict is same: what faces make up is
--- closed, so that the handed-in set has the syndrome of the correction, and does not wind. Assumes nothing.
+-- Where some faces make up the handed-in set and the correction together, and nothing is refused, the verdict is same: what faces make up
+-- is closed, so that the handed-in set has the syndrome of the correction, and does not wind. Assumes nothing.
 use Prim.Native.Nat.{ℕ}
 use mathlib.Core.Path.{_≡_, refl, sym, _∙_}
 use mathlib.Core.List.{List}

@@ -9,9 +9,7 @@ ghost use mathlib.Core.Path.{_≡_};
 ghost use Prim.Native.Nat.{_*_};
 ghost use lib.ListN.{length};
 ghost use Rattle.model.specs.Lent.{before, after};
-ghost use Rattle.model.specs.FacesOutcomes.{torusSheet};
-ghost use Rattle.verdict.specs.Judging.{Compares};
-ghost use Rattle.faces.specs.Lent.{OnTorus, TorusLent};
+ghost use Rattle.faces.specs.Lent.{OnTorus, TorusLent, Judged};
 
 // The torus is built into arrays of its own, without open vertices; the correction stays in its buffer.
 pub(crate) fn judge(
@@ -22,8 +20,7 @@ pub(crate) fn judge(
     correction: &mut [u8],
 ) -> Verdict
     requires { ⌜ OnTorus side (now syndrome) (now loss) (now handed) × (length (now correction) ≡ 2 * (side * side)) ⌝ }
-    ensures { λ r.
-        ⌜ Compares (torusSheet side (before syndrome) (before loss)) (before handed) r (after correction) ⌝ }
+    ensures { λ r. ⌜ Judged side (before syndrome) (before loss) (before handed) (before correction) r (after correction) ⌝ }
 {
     let vertices = side * side;
     let edges = 2 * vertices;
@@ -58,8 +55,7 @@ fn build_and_compare(
 ) -> Verdict
     requires { ⌜ OnTorus side (now syndrome) (now loss) (now handed)
         × TorusLent side (now ends) (now marks) (now opened) (now support) (now correction) ⌝ }
-    ensures { λ r.
-        ⌜ Compares (torusSheet side (before syndrome) (before loss)) (before handed) r (after correction) ⌝ }
+    ensures { λ r. ⌜ Judged side (before syndrome) (before loss) (before handed) (before correction) r (after correction) ⌝ }
 {
     fill_ends(side, ends);
     fill_marks(side, marks);

@@ -1,6 +1,7 @@
 pub mod Contradiction
 pub mod Xor
 pub mod Bits
+pub mod EqualTests
 pub mod SumLaws
 pub mod CountLaws
 pub mod ListLaws

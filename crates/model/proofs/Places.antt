@@ -55,6 +55,12 @@ rules-below {b} (R ∷ rs) w = go (tested R) (w .0) (rules-below rs (w .1))
     go none here later = later
     go (some n) here later = here
 
+-- before an answer that is no refusal the tests have passed
+pub answer-passed : {A : Type 0} {refused : Refusal → A} (t : Test) (else a : A) → a ≡ answer t refused else → ((n : Refusal) → a ≡ refused n → ⊥)
+    → t ≡ none
+answer-passed none else a p apart = refl
+answer-passed (some n) else a p apart = absurd (apart n p)
+
 -- what holds of every refusal that the test gives, and of what follows where it passes, holds of the answer
 pub answer-holds : {A : Type 0} (P : A → Type 0) (t : Test) (refused : Refusal → A) (else : A)
     → ((n : Refusal) → t ≡ some n → P (refused n)) → (t ≡ none → P else) → P (answer t refused else)

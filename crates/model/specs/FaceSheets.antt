@@ -1,4 +1,5 @@
--- Document 02, K9: faces by hand on the tori of sides 1 to 3, and two verdicts with faces. Gathered as one list, each proved by computation.
+-- Document 02, K9: faces by hand on the tori of sides 1 to 3, and two verdicts with faces. Gathered as one list, each proved by
+-- computation.
 -- Assumes nothing.
 use Prim.Native.Nat.{ℕ, _*_}
 use mathlib.Core.Path.{_≡_, refl}

@@ -1,5 +1,5 @@
--- Document 02, K9: the faces of the torus of side L (source document 000, section 1), the sets of edges that they make up, and, for a closed
--- set that does not wind, the faces that make it up.
+-- Document 02, K9: the faces of the torus of side L (source document 000, section 1), the sets of edges that they make up, and, for a
+-- closed set that does not wind, the faces that make it up.
 -- Assumes nothing.
 use Prim.Native.Nat.{ℕ, zero, suc, _+_, _*_, _<_}
 use mathlib.Core.Path.{_≡_}
@@ -17,7 +17,8 @@ abbrev pub secondKind : ℕ → ℕ
 secondKind v = 2 * v + 1
 
 -- Face (r, c) has the number rL + c, which is also that of vertex (r, c), its first corner. Its edges are those of the first kind at (r, c)
--- and (r + 1, c) and those of the second kind at (r, c) and (r, c + 1), modulo L. An edge that is named twice cancels, as both are at side 1.
+-- and (r + 1, c) and those of the second kind at (r, c) and (r, c + 1), modulo L. An edge that is named twice cancels, as both are at side
+-- 1.
 abbrev pub inFace : ℕ → ℕ → Set
 inFace L i e =
     (eqb (firstKind i) e ⊕ eqb (firstKind (below L i)) e) ⊕ (eqb (secondKind i) e ⊕ eqb (secondKind (rightOf L i)) e)
@@ -30,14 +31,19 @@ faceSum L f e = oddUpTo (L * L) (λ i. f i && inFace L i e)
 pub record MakesUp (L : ℕ) (f D : Set) : Type 0 where
   pub at : (e : ℕ) → e < 2 * (L * L) → faceSum L f e ≡ D e
 
+-- some faces make up D
+pub record MadeOfFaces (L : ℕ) (D : Set) : Type 0 where
+  pub faces : Set
+  pub make-up : MakesUp L faces D
+
 -- the faces that are not in f
 abbrev pub complement : Set → Set
 complement f i = not (f i)
 
--- The faces that make up a closed set D that does not wind, without face 0. An edge lies in D exactly where one of the two faces beside it is
--- marked and the other is not; so going from face 0 along the first row, and from there down each column, the mark changes at each edge of D
--- that is crossed: from (0, c) to (0, c + 1) the edge of the second kind at (0, c + 1), from (r, c) to (r + 1, c) that of the first kind at
--- (r + 1, c).
+-- The faces that make up a closed set D that does not wind, without face 0. An edge lies in D exactly where one of the two faces beside it
+-- is marked and the other is not; so going from face 0 along the first row, and from there down each column, the mark changes at each edge
+-- of D that is crossed: from (0, c) to (0, c + 1) the edge of the second kind at (0, c + 1), from (r, c) to (r + 1, c) that of the first
+-- kind at (r + 1, c).
 unfoldable pub faceAt : ℕ → Set → ℕ → ℕ → Bool
 faceAt L D zero zero = false
 faceAt L D zero (suc c) = faceAt L D zero c ⊕ D (secondKind (suc c))

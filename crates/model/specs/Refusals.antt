@@ -1,5 +1,5 @@
--- Document 01, "Numbers and places", and document 02, K1, K3, K5 and K9: the number and the place of each refusal, and the rules of each call in
--- the order of their tests. No refusal has number 5, which was that of equal ends.
+-- Document 01, "Numbers and places", and document 02, K1, K3, K5 and K9: the number and the place of each refusal, and the rules of each
+-- call in the order of their tests. No refusal has number 5, which was that of equal ends.
 -- Assumes nothing.
 use Prim.Native.Nat.{ℕ, _*_, _/_, _%_}
 use mathlib.Core.Bool.{Bool, cond, _&&_, _||_}
@@ -284,7 +284,7 @@ facesSized L syndrome loss handed faces =
 -- of each face. The side comes first, and the lengths are held to it. It tests for number 10 as the verdict does.
 abbrev pub torusByteRules : ℕ → List ℕ → List ℕ → List ℕ → List ℕ → List Rule
 torusByteRules L syndrome loss handed faces =
-    lengthRule (facesSized L syndrome loss handed faces) ∷ syndromeRule syndrome ∷ lossRule loss ∷ handedRule handed ∷ []
+    lengthRule (facesSized L syndrome loss handed faces) ∷ (byteRules syndrome loss ++ (handedRule handed ∷ []))
 
 unfoldable pub facesRules : ℕ → List ℕ → List ℕ → List ℕ → List ℕ → List Rule
 facesRules L syndrome loss handed faces = sideRule L ∷ torusByteRules L syndrome loss handed faces

@@ -13,7 +13,8 @@ pub enum RoundsDecoded {
     Refused(Refusal),
 }
 
-// What the verdict on a handed-in set answers: off with a vertex, same, wound with a mark value, or decoding's own refusal.
+// What the verdict on a handed-in set answers, with faces too: off with a vertex, same, wound with a mark value, or a refusal, decoding's own
+// among them.
 pub enum Verdict {
     Off(Vertex),
     Same,

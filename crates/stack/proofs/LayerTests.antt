@@ -13,8 +13,8 @@ use Rattle.model.specs.Board.{vertexLimit}
 use Rattle.model.specs.Stack.{layerVertices, stackVertices}
 use Rattle.model.specs.Refusals.{refusalOf, roundsRule, layerRules}
 use Rattle.model.proofs.Xor.{and-left, and-right}
+use Rattle.model.proofs.RuleLists.{unless-passes}
 use Rattle.board.proofs.Failures.{each-passes}
-use Rattle.board.proofs.Passing.{unless-passes}
 use Rattle.torus.specs.Sides.{SideWithin}
 use Rattle.torus.proofs.SideRefused.{within-passes, passed-within}
 use Rattle.stack.specs.Layers.{StackWithin}

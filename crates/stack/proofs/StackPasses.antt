@@ -6,8 +6,9 @@ use mathlib.Core.List.{List}
 use mathlib.Core.Option.{none}
 use Rattle.model.specs.declared.refusal.Refusal.the-variants.{BufferLength}
 use Rattle.model.specs.Refusals.{refusalOf, layerRules, readingRules, stackSized, stackRefusal}
+use Rattle.model.proofs.RuleLists.{unless-passes}
 use Rattle.board.proofs.Failures.{neither-fails, each-passes}
-use Rattle.board.proofs.Passing.{unless-passes, bytes-say}
+use Rattle.board.proofs.Passing.{bytes-say}
 use Rattle.stack.specs.Lent.{ForStack}
 use Rattle.stack.proofs.LayerTests.{passed-layers}
 use Rattle.stack.proofs.StackTests.{stack-tests, readings-long, syndrome-long, ends-long, marks-long}

@@ -15,6 +15,7 @@ use Rattle.model.specs.Torus.{torusFrom, torusTo, torusEnds, torusMarks, torus}
 use Rattle.model.specs.Stack.{layerVertices, layerEdges, stackEdges, vertexIn, flat, upright, edgeNumber, stackEdge, lowerEnd, upperEnd, stackEnds, stackMarks, stack}
 use Rattle.model.proofs.OpenBytes.{none-open}
 use Rattle.model.proofs.Xor.{xor-assoc, and-xor}
+use Rattle.model.proofs.EqualTests.{eqb-turned}
 use Rattle.model.proofs.SumLaws.{odd-cong, odd-none, odd-xor, odd-and, odd-at, odd-append, odd-blocks}
 use Rattle.theory.proofs.Syndromes.{shut-syndrome}
 use Rattle.torus.proofs.TorusRows as flat-rows
@@ -51,16 +52,12 @@ odd-single : (n a : ℕ) (f : Set) → oddUpTo n (λ i. f i && eqb i a) ≡ (ltb
 odd-single n a f =
     elim (decLt a n) [
       | yes h ↦
-          odd-cong n (λ i. f i && eqb i a) (λ i. f i && eqb a i) (λ i l. ap (λ t. f i && t) (flip i (eqb a i) refl))
+          odd-cong n (λ i. f i && eqb i a) (λ i. f i && eqb a i) (λ i l. ap (λ t. f i && t) (eqb-turned i a))
           ∙ odd-at n a f h ∙ rw (lt-ltb a n h)
       | no h ↦
           odd-none n (λ i. f i && eqb i a) (λ i l. rw (ne-eqb i a (λ e. omega arith)) (and-false (f i)))
           ∙ rw (le-ltb a n (omega arith))
     ]
-  where
-    flip : (i : ℕ) (t : Bool) → eqb a i ≡ t → eqb i a ≡ eqb a i
-    flip i true p = eq-eqb i a (sym (eqb-true a i p)) ∙ sym p
-    flip i false p = ne-eqb i a (λ e. eqb-false a i p (sym e)) ∙ sym p
 
 -- adding one number to both sides changes no comparison
 eqb-shift : (n a b x y : ℕ) → a ≡ x + n → b ≡ y + n → eqb a b ≡ eqb x y

@@ -18,12 +18,11 @@ use Rattle.model.specs.Stack.{stackVertices}
 use Rattle.model.specs.Text.{textOf}
 use Rattle.model.specs.TextOutcomes.{Buffers, textLimit, textRule, readRefusal, writeRefusal}
 use Rattle.model.proofs.Places.{PlaceBelow, EachBelow, wider, unless-below, at-below, first-below, else-below, rules-below}
-use Rattle.model.proofs.RuleLists.{refusal-append}
+use Rattle.model.proofs.RuleLists.{unless-passes, refusal-append}
 use Rattle.theory.proofs.SmallestOdd.{smallest-odd-exactly}
 use Rattle.board.proofs.Validity.{board-tests, counts-allow, plain-tests, board-allows, sheet-tests, plain-passes, plain-allows}
 use Rattle.board.proofs.Calls.{verdict-tests, handed-allowed, distance-tests, open-allowed}
 use Rattle.board.proofs.Failures.{each-passes}
-use Rattle.board.proofs.Passing.{unless-passes}
 use Rattle.stack.proofs.LayerTests.{passed-layers}
 use Rattle.stack.proofs.StackTests.{stack-tests, readings-long}
 use Rattle.torus.proofs.SideRefused.{passed-within}

@@ -42,8 +42,8 @@ use Rattle.theory.proofs.AnswerBounds.{count-limit, size-bound, differs-bound, 
 use Rattle.theory.proofs.ReadBounds.{LineBelow, line-below}
 use Rattle.theory.proofs.RoundTrip.{written-read}
 use Rattle.model.proofs.Xor.{and-right}
+use Rattle.model.proofs.RuleLists.{unless-passes}
 use Rattle.board.proofs.Failures.{each-passes}
-use Rattle.board.proofs.Passing.{unless-passes}
 use Rattle.board.proofs.Calls.{decode-passes, verdict-passes, distance-passes}
 use Rattle.text.proofs.TextCalls.{read-within, write-passed}
 use Rattle.torus.proofs.Numbering.{square-limit}

@@ -22,8 +22,8 @@ use Rattle.model.specs.Text.{Read, complete, refused, textOf, readText}
 use Rattle.model.specs.TextOutcomes.{textLimit, over, Buffers, readRules, readRefusal, readOutcome, counts, filled, Reads, writeRefusal, writeAnswer, writtenOr, Writes}
 use Rattle.model.proofs.Contradiction.{zero-one}
 use Rattle.theory.proofs.RoundTrip.{read-written, written-read}
+use Rattle.model.proofs.RuleLists.{unless-passes}
 use Rattle.board.proofs.Failures.{neither-fails, each-passes}
-use Rattle.board.proofs.Passing.{unless-passes}
 use Rattle.board.proofs.Validity.{sheet-passes, passes-sheet}
 use Rattle.text.specs.Scratch.{Sized}
 use Rattle.text.proofs.ReadOutcome.{sized-fits, by-lines}

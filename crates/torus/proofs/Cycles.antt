@@ -1,5 +1,5 @@
--- Parity round a cycle of the numbers below L, each after the one before it modulo L. The differences of a set along the whole cycle cancel;
--- and differences that cancel are those of a set as soon as they are so at all numbers but 0.
+-- Parity round a cycle of the numbers below L, each after the one before it modulo L. The differences of a set along the whole cycle
+-- cancel; and differences that cancel are those of a set as soon as they are so at all numbers but 0.
 -- Assumes nothing.
 use Prim.Native.Nat.{ℕ, zero, suc, _-_, _≤_, _<_}
 use mathlib.Core.Path.{_≡_, sym, ap, _∙_}

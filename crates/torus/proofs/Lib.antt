@@ -5,6 +5,7 @@ pub mod Filling
 pub mod Writing
 pub mod TorusRows
 pub mod TorusValid
+pub mod EveryEdge
 pub mod TorusCells
 pub mod Cycles
 pub mod TorusStar

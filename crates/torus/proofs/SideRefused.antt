@@ -1,16 +1,17 @@
 -- A side outside the range is refused with number 11, whatever is tested after it; a side in range passes. Assumes nothing.
 use Prim.Native.Nat.{ℕ, _*_, _≤_, _<_}
-use mathlib.Core.Path.{_≡_, refl, ap}
-use mathlib.Core.Bool.{Bool, true, false, _&&_}
+use mathlib.Core.Path.{_≡_, ap}
+use mathlib.Core.Bool.{_&&_}
 use mathlib.Core.List.{List, [], _∷_}
-use mathlib.Core.Option.{none, some, Option·some-ne-none}
+use mathlib.Core.Option.{none, some}
 use borrow.Author.Tests.{le-leb, lt-leb, leb-true}
 use lib.Dec.{leb}
 use Rattle.model.specs.declared.refusal.Refusal.the-variants.{TorusSide}
 use Rattle.model.specs.declared.answers.Built.the-variants.{Vertices, Refused}
 use Rattle.model.specs.Torus.{leastSide, largestSide}
-use Rattle.model.specs.Refusals.{Rule, unless, tested, refusalOf, sized, sideRule, lengthRule, torusRefusal}
+use Rattle.model.specs.Refusals.{Rule, tested, refusalOf, sized, sideRule, lengthRule, torusRefusal}
 use Rattle.model.specs.Outcomes.{answer, torusAnswer}
+use Rattle.model.proofs.RuleLists.{unless-passes}
 use Rattle.model.proofs.Xor.{and-left, and-right}
 use Rattle.torus.specs.Sides.{SideWithin}
 
@@ -26,15 +27,11 @@ module _ (L : ℕ) (rules : List Rule) where
 
 pub passed-within : (L : ℕ) → tested (sideRule L) ≡ none → SideWithin L
 passed-within L p =
-    let in-range = kept (leb leastSide L && leb L largestSide) p in
+    let in-range = unless-passes (leb leastSide L && leb L largestSide) (TorusSide L) p in
     record {
       least = leb-true leastSide L (and-left (leb leastSide L) (leb L largestSide) in-range);
       most = leb-true L largestSide (and-right (leb leastSide L) (leb L largestSide) in-range);
     }
-  where
-    kept : (ok : Bool) → unless ok (TorusSide L) ≡ none → ok ≡ true
-    kept true q = refl
-    kept false q = absurd (Option·some-ne-none (TorusSide L) q)
 
 -- so it is with the builder
 module _ (L : ℕ) (ends marks : List ℕ) where

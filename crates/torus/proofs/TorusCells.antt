@@ -8,11 +8,10 @@ use native.Mathlib.Nat.{mod-lt, mod-self, mod-eq-of-lt, div-add-mod'}
 use native.Mathlib.Numerals.{add-one}
 use native.Mathlib.Decide.{decLt}
 use native.Mathlib.Omega.{arith}
-use borrow.Author.Tests.{eqb-true, eq-eqb}
 use lib.Arith.{digits-lt}
 use lib.Dec.{eqb}
 use Rattle.model.specs.Torus.{row, column, rightOf, below}
-use Rattle.theory.proofs.JoinedLabels.{same-test}
+use Rattle.model.proofs.EqualTests.{eqb-alike}
 use Rattle.torus.proofs.Numbering.{row-less}
 use Rattle.torus.proofs.TorusRows.{row-of, column-of}
 
@@ -90,14 +89,6 @@ module _ (L v : ℕ) (some : 1 ≤ L) (h : v < L * L) where
       below-at L (prev L (row L v)) (column L v) (prev-less L (row L v) some (row-less L v some h)) column-less
       ∙ ap (λ x. x * L + column L v) (next-prev L (row L v) some (row-less L v some h))
       ∙ div-add-mod' v L
-
--- two tests for equality that follow from each other
-pub eqb-alike : (a b x y : ℕ) → (a ≡ b → x ≡ y) → (x ≡ y → a ≡ b) → eqb a b ≡ eqb x y
-eqb-alike a b x y to from =
-    same-test (eqb a b) (eqb x y) (λ p. eq-eqb x y (to (eqb-true a b p))) (λ p. eq-eqb a b (from (eqb-true x y p)))
-
-pub eqb-turned : (a b : ℕ) → eqb a b ≡ eqb b a
-eqb-turned a b = eqb-alike a b b a sym sym
 
 module _ (L i v : ℕ) (some : 1 ≤ L) (at-i : i < L * L) (at-v : v < L * L) where
   pub right-turned : eqb (rightOf L i) v ≡ eqb (leftOf L v) i

@@ -4,18 +4,18 @@ use Prim.Native.Nat.{ℕ, zero, suc, _+_, _*_, _%_, _≤_, _<_}
 use mathlib.Core.Path.{_≡_, refl, sym, ap, _∙_}
 use mathlib.Core.Bool.{true}
 use mathlib.Core.Option.{some}
-use native.Mathlib.Nat.{mod-lt, mod-eq-of-lt, div-add-mod'}
+use native.Mathlib.Nat.{mod-eq-of-lt}
 use native.Mathlib.Numerals.{add-one}
 use native.Mathlib.Omega.{arith}
 use Rattle.model.specs.Sums.{Set}
 use Rattle.model.specs.Board.{edges}
 use Rattle.model.specs.Decoding.{smallestOdd}
-use Rattle.model.specs.Torus.{row, column, torus}
+use Rattle.model.specs.Torus.{torus}
 use Rattle.model.specs.Faces.{firstKind, secondKind}
 use Rattle.theory.proofs.Connected.{Connected, along, back, chain, connected-equal}
 use Rattle.theory.proofs.SmallestOdd.{smallest-odd-exactly, smallest-of-part}
 use Rattle.torus.specs.Sides.{SideWithin}
-use Rattle.torus.proofs.Numbering.{row-less}
+use Rattle.torus.proofs.EveryEdge.{every-vertex}
 use Rattle.torus.proofs.TorusRows.{edge-count, inside, first-from, first-to, second-from, second-to}
 use Rattle.torus.proofs.TorusValid.{torus-valid}
 
@@ -50,8 +50,7 @@ module _ (L : ℕ) (side : 1 ≤ L) where
   to-vertex-0 r (suc c) in-row in-column = chain (to-the-left r c in-row in-column) (to-vertex-0 r c in-row (omega arith))
 
   pub torus-connected : (v : ℕ) → v < L * L → Joined v 0
-  torus-connected v h =
-      chain (equal (sym (div-add-mod' v L))) (to-vertex-0 (row L v) (column L v) (row-less L v side h) (mod-lt v side))
+  torus-connected = every-vertex L side (λ v. Joined v 0) to-vertex-0
 
 -- Theorem: number 10 shows vertex 0.
 pub torus-shows-0 : (L : ℕ) → SideWithin L → (S : Set) (v : ℕ) → smallestOdd (torus L) S ≡ some v → v ≡ 0

@@ -10,10 +10,10 @@ use Rattle.model.specs.Sums.{Set, _⊕_, oddUpTo}
 use Rattle.model.specs.Torus.{torus}
 use Rattle.model.specs.Faces.{firstKind, secondKind}
 use Rattle.model.proofs.Xor.{xor-false}
+use Rattle.model.proofs.EqualTests.{eqb-turned}
 use Rattle.model.proofs.SumLaws.{odd-cong, odd-none, odd-xor, odd-and, odd-at, odd-blocks, odd-pairs}
 use Rattle.theory.proofs.CrossedLines.{Line, lineA, lineB, crosses, crossesOddly}
 use Rattle.torus.proofs.TorusRows.{edge-count, first-mark, second-mark}
-use Rattle.torus.proofs.TorusCells.{eqb-turned}
 
 -- edge e is in D and crosses line x
 abbrev crossing : ℕ → Line → Set → Set

@@ -10,11 +10,12 @@ use Rattle.model.specs.Syndrome.{meets, oddEnd, syndrome}
 use Rattle.model.specs.Torus.{torusFrom, torusTo, torusEnds, torusMarks, torus}
 use Rattle.model.specs.Faces.{firstKind, secondKind}
 use Rattle.model.proofs.OpenBytes.{none-open}
+use Rattle.model.proofs.EqualTests.{eqb-turned}
 use Rattle.model.proofs.SumLaws.{odd-cong, odd-xor, odd-pairs, odd-two}
 use Rattle.theory.proofs.Syndromes.{shut-syndrome}
 use Rattle.torus.proofs.Edges.{half-even, half-odd, right-to, below-to}
 use Rattle.torus.proofs.TorusRows.{edge-count, first-is, second-is}
-use Rattle.torus.proofs.TorusCells.{leftOf, aboveOf, left-less, above-less, eqb-turned, right-turned, below-turned}
+use Rattle.torus.proofs.TorusCells.{leftOf, aboveOf, left-less, above-less, right-turned, below-turned}
 
 module _ (L : ℕ) (some : 1 ≤ L) (D : Set) (v : ℕ) (h : v < L * L) where
   -- edge e is in D and meets v

@@ -6,6 +6,7 @@ use mathlib.Core.Bool.{_&&_, _||_, and-true, or-false, or-self}
 use native.Mathlib.Decide.{ℕ-discrete}
 use borrow.Author.Tests.{eq-eqb, ne-eqb}
 use lib.Dec.{eqb}
+use Rattle.model.proofs.EqualTests.{eqb-turned}
 use Rattle.union_find.specs.Trees.{moved}
 
 pub moved-here : (x y : ℕ) → moved x y x ≡ y
@@ -13,14 +14,6 @@ moved-here x y = rw (eq-eqb x x refl)
 
 pub moved-other : (x y r : ℕ) → r ≢ x → moved x y r ≡ r
 moved-other x y r q = rw (ne-eqb r x q)
-
--- two equations of numbers that imply each other are one test
-pub eqb-iff : (a b c d : ℕ) → (a ≡ b → c ≡ d) → (c ≡ d → a ≡ b) → eqb a b ≡ eqb c d
-eqb-iff a b c d to from =
-    elim (ℕ-discrete a b) [
-      | yes q ↦ eq-eqb a b q ∙ sym (eq-eqb c d (to q))
-      | no q ↦ ne-eqb a b q ∙ sym (ne-eqb c d (λ r. q (from r)))
-    ]
 
 -- what goes to y came from x or y
 pub moved-target : (x y r : ℕ) → eqb (moved x y r) y ≡ (eqb r x || eqb r y)
@@ -41,7 +34,7 @@ moved-elsewhere x y r z zx zy =
 pub both-same : (y r z : ℕ) → eqb r z ≡ (eqb r z || (eqb r y && eqb z y))
 both-same y r z =
     elim (ℕ-discrete r y) [
-      | yes q ↦ rw (eq-eqb r y q, q, eqb-iff y z z y sym sym) (sym (or-self (eqb z y)))
+      | yes q ↦ rw (eq-eqb r y q, q, eqb-turned y z) (sym (or-self (eqb z y)))
       | no q ↦ rw (ne-eqb r y q) (sym (or-false (eqb r z)))
     ]
 
@@ -51,7 +44,7 @@ moved-same x y r z =
     elim (ℕ-discrete r x) [
       | yes q ↦ elim (ℕ-discrete z x) [
         | yes w ↦ rw (eq-eqb r x q, eq-eqb z x w, eq-eqb y y refl, eq-eqb r z (q ∙ sym w))
-        | no w ↦ rw (eq-eqb r x q, ne-eqb z x w, ne-eqb r z (λ e. w (sym e ∙ q))) (eqb-iff y z z y sym sym)
+        | no w ↦ rw (eq-eqb r x q, ne-eqb z x w, ne-eqb r z (λ e. w (sym e ∙ q))) (eqb-turned y z)
       ]
       | no q ↦ elim (ℕ-discrete z x) [
         | yes w ↦ rw (ne-eqb r x q, eq-eqb z x w, ne-eqb r z (λ e. q (e ∙ w))) (sym (and-true (eqb r y)))

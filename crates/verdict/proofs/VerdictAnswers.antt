@@ -2,8 +2,10 @@
 -- that decoding wrote. Assumes nothing.
 use Prim.Native.Nat.{ℕ, _<_}
 use mathlib.Core.Path.{_≡_, refl, sym, ap, _∙_}
+use mathlib.Core.Bool.{Bool, true, false, cond}
 use mathlib.Core.List.{List}
 use mathlib.Core.Option.{Option, none, some}
+use lib.Dec.{eqb}
 use Rattle.model.specs.declared.refusal.Refusal.{Refusal}
 use Rattle.model.specs.declared.answers.Decoded.{Decoded}
 use Rattle.model.specs.declared.answers.Decoded.the-variants as decoded
@@ -11,8 +13,8 @@ use Rattle.model.specs.declared.answers.Verdict.{Verdict}
 use Rattle.model.specs.declared.answers.Verdict.the-variants as verdict
 use Rattle.model.specs.Sums.{Set, _⊕_, ones, bytes}
 use Rattle.model.specs.Board.{Board, Sheet, edges}
-use Rattle.model.specs.Winding.{together, size}
-use Rattle.model.specs.Decoding.{smallestOdd, growths, corrected}
+use Rattle.model.specs.Winding.{together, crossings, size}
+use Rattle.model.specs.Decoding.{smallestOdd, growths, supports, corrected}
 use Rattle.model.specs.Verdict.{differs, judgedAt, judged}
 use Rattle.model.specs.Refusals.{noneAt, verdictRefusal}
 use Rattle.model.specs.Outcomes.{keyOrNone, keyOr, Decodes, judgedOrNone, verdictAnswer, Judges}
@@ -21,7 +23,7 @@ use Rattle.model.proofs.ListLaws.{ones-bytes, bytes-valid}
 use Rattle.theory.proofs.CrossedLines.{crossings-cong}
 use Rattle.theory.proofs.Decodings.{passed-answer, none-answer, key-answer}
 use Rattle.board.proofs.Calls.{passes-decode, passes-verdict}
-use Rattle.verdict.specs.Judging.{Judgeable, Comparable, Compares}
+use Rattle.verdict.specs.Judging.{Judgeable, Comparable, decodedOr, Compares}
 
 -- only the edges of the correction below the edge count matter
 judged-cong : (B : Board) (S C D H : Set) → ((e : ℕ) → e < edges B → C e ≡ D e) → judged B S C H ≡ judged B S D H
@@ -29,6 +31,19 @@ unfolding judged
 judged-cong B S C D H same =
     ap (λ x. judgedAt (differs B S H) x)
     (crossings-cong B (together H C) (together H D) (λ e h. ap (λ t. H e ⊕ t) (same e h)))
+
+-- a comparison leaves what decoding wrote
+judged-decoded : {A : Type 0} (B : Board) (S C H : Set) (new old : A) → decodedOr (judged B S C H) new old ≡ new
+unfolding judged
+judged-decoded {A} B S C H new old = at (differs B S H) (crossings B (together H C))
+  where
+    by : (t : Bool) (x : ℕ) → decodedOr (cond t verdict.Same (verdict.Wound x)) new old ≡ new
+    by true x = refl
+    by false x = refl
+
+    at : (o : Option ℕ) (x : ℕ) → decodedOr (judgedAt o x) new old ≡ new
+    at none x = by (eqb x 0) x
+    at (some v) x = refl
 
 -- The verdict's answer
 
@@ -79,8 +94,13 @@ module _ (X : Sheet) (handed support correction support′ correction′ : List 
           let q : decoded.Refused n ≡ decoded.Key (growths X) (size (X .board) (corrected X)) = sym refused ∙ decoded-is ∙ key-answer X p in
           zero-one (cc)
 
-  pub none-compares : (n : Refusal) → a ≡ decoded.Refused n → Compares X handed (verdict.Refused n) correction′
-  none-compares n refused = record { judges = none-judges n refused; corrected-bytes = λ same. zero-one (cc) }
+  pub none-compares : (n : Refusal) → a ≡ decoded.Refused n → Compares X handed support correction (verdict.Refused n) support′ correction′
+  none-compares n refused =
+      record {
+        judges = none-judges n refused;
+        support-bytes = d .support-bytes ∙ ap (λ x. keyOr x (supports X) support) refused;
+        correction-bytes = d .correction-bytes ∙ ap (λ x. keyOr x (bytes (edges (X .board)) (corrected X)) correction) refused;
+      }
 
   -- decoding gives a key: the correction is written, and can be compared
   module _ (g k : ℕ) (key : a ≡ decoded.Key g k) where
@@ -115,5 +135,15 @@ module _ (X : Sheet) (handed support correction support′ correction′ : List 
             }
 
     pub key-compares : (r : Verdict) → r ≡ judged (X .board) (ones (X .syndrome)) (ones correction′) (ones handed)
-        → Compares X handed r correction′
-    key-compares r q = record { judges = key-judges r q; corrected-bytes = λ same. key-written }
+        → Compares X handed support correction r support′ correction′
+    key-compares r q =
+        record {
+          judges = key-judges r q;
+          support-bytes =
+              d .support-bytes
+              ∙ ap (λ x. keyOr x (supports X) support) key
+              ∙ sym (ap (λ v. decodedOr v (supports X) support) q ∙ judged-decoded _ _ _ _ (supports X) support);
+          correction-bytes =
+              key-written
+              ∙ sym (ap (λ v. decodedOr v (bytes (edges (X .board)) (corrected X)) correction) q ∙ judged-decoded _ _ _ _ _ correction);
+        }

@@ -5,10 +5,10 @@ use Prim.Native.Nat.{ℕ}
 use lib.ListN.{length}
 use mathlib.Core.Path.{_≡_}
 use Rattle.model.specs.declared.answers.Verdict.{Verdict}
-use Rattle.model.specs.declared.answers.Verdict.the-variants.{Same}
+use Rattle.model.specs.declared.answers.Verdict.the-variants.{Off, Same, Wound, Refused}
 use Rattle.model.specs.Sums.{ones, bytes}
 use Rattle.model.specs.Board.{Board, Sheet, Inside, ValidBytes, ValidSheet, Unlit, edges}
-use Rattle.model.specs.Decoding.{corrected}
+use Rattle.model.specs.Decoding.{supports, corrected}
 use Rattle.model.specs.Outcomes.{Judges}
 
 -- the ends lie on the board, each vertex has an open byte, every byte of the syndrome and of the two sets is 0 or 1, and no open vertex is
@@ -28,7 +28,15 @@ pub record Comparable (X : Sheet) (handed support correction : List ℕ) : Type 
   pub support-long : length support ≡ edges (X .board)
   pub correction-long : length correction ≡ edges (X .board)
 
--- the answer is the verdict's, and under same the correction stands in its buffer
-pub record Compares (X : Sheet) (handed : List ℕ) (r : Verdict) (correction′ : List ℕ) : Type 0 where
+-- what a buffer holds after a comparison: what decoding wrote, or after a refusal, number 10, its old contents
+abbrev pub decodedOr : {A : Type 0} → Verdict → A → A → A
+decodedOr (Off v) new old = new
+decodedOr Same new old = new
+decodedOr (Wound x) new old = new
+decodedOr (Refused n) new old = old
+
+-- the answer is the verdict's, and the two buffers are decoding's
+pub record Compares (X : Sheet) (handed support correction : List ℕ) (r : Verdict) (support′ correction′ : List ℕ) : Type 0 where
   pub judges : Judges X handed r
-  pub corrected-bytes : r ≡ Same → correction′ ≡ bytes (edges (X .board)) (corrected X)
+  pub support-bytes : support′ ≡ decodedOr r (supports X) support
+  pub correction-bytes : correction′ ≡ decodedOr r (bytes (edges (X .board)) (corrected X)) correction

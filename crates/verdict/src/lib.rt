@@ -29,7 +29,8 @@ pub fn compare(
 ) -> Verdict
     requires { ⌜ Comparable (sheetOf (boardOf vertices (now ends) (now marks) (now opened)) (now syndrome) (now loss))
         (now handed) (now support) (now correction) ⌝ }
-    ensures { λ r. ⌜ Compares (sheetLent vertices ends marks opened syndrome loss) (before handed) r (after correction) ⌝ }
+    ensures { λ r. ⌜ Compares (sheetLent vertices ends marks opened syndrome loss) (before handed) (before support) (before correction)
+        r (after support) (after correction) ⌝ }
 {
     let decoded = decode(
         vertices,

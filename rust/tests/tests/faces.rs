@@ -1,72 +1,12 @@
 //! Document 02, K9: the verdict on a torus, with faces as evidence.
 
-use reference::board::{Sheet, set_of, size, together};
+use reference::board::{Sheet, set_of, together};
 use reference::faces::made_up;
 use reference::torus::{column_loop, row_loop, torus};
 use reference::{Random, generators};
 use table::{Refusal, Verdict};
-use table_tests::refused::refused;
+use table_tests::faces::{Answer, Lent, judge};
 use table_tests::{agrees, library};
-
-/// What the call answers, and the faces that it writes where that is same.
-type Answer = Result<(Verdict, Option<Vec<u8>>), Refusal>;
-
-/// What is lent to be read, beside a side.
-#[derive(Clone, Debug)]
-struct Lent {
-    syndrome: Vec<u8>,
-    loss: Vec<u8>,
-    handed: Vec<u8>,
-}
-
-impl Lent {
-    /// Nothing lit, lost or handed in, on the torus of a side.
-    fn blank(side: usize) -> Lent {
-        let (vertices, edges) = (side * side, 2 * side * side);
-        Lent { syndrome: vec![0; vertices], loss: vec![0; edges], handed: vec![0; edges] }
-    }
-
-    /// The sheet, with this set handed in.
-    fn new(sheet: &Sheet, handed: &[u8]) -> Lent {
-        let Sheet { syndrome, loss, .. } = sheet.clone();
-        Lent { syndrome, loss, handed: handed.to_vec() }
-    }
-}
-
-/// Holds faces to document 02's words: a byte for each, and those that are marked, an edge counted twice
-/// cancelling, make up the set; of the two choices, the one without face 0.
-fn hold_faces(side: usize, faces: &[u8], set: &[u8]) {
-    assert!(faces.len() == side * side && faces.iter().all(|&byte| byte <= 1), "{faces:?}");
-    assert_eq!(faces[0], 0, "{faces:?}");
-    let number = |r: usize, c: usize| (r % side) * side + c % side;
-    let mut sum = vec![0; set.len()];
-    for (r, c) in (0..side).flat_map(|r| (0..side).map(move |c| (r, c))) {
-        let byte = faces[number(r, c)];
-        sum[2 * number(r, c)] ^= byte;
-        sum[2 * number(r + 1, c)] ^= byte;
-        sum[2 * number(r, c) + 1] ^= byte;
-        sum[2 * number(r, c + 1) + 1] ^= byte;
-    }
-    assert_eq!(sum, set, "side {side}: {faces:?}");
-}
-
-/// The call on a side in range, with a buffer of the right length to fill, held to answer as the
-/// library's verdict does on the library's torus, and to write faces that make up the handed-in set and
-/// the library's correction together.
-fn judge(side: usize, lent: &Lent) -> Answer {
-    let Lent { syndrome, loss, handed } = lent.clone();
-    let answer = agrees::faces(side as u32, &syndrome, &loss, &handed);
-    let edges = 2 * side * side;
-    let board = agrees::torus_with(side as u32, 2 * edges, edges).expect("a side in range");
-    let sheet = Sheet { board, syndrome, loss };
-    let verdict = agrees::verdict(&sheet, &handed);
-    assert_eq!(answer.as_ref().map(|(judged, _)| *judged).map_err(|refusal| *refusal), verdict);
-    if let Ok((_, Some(faces))) = &answer {
-        let key = library::decode(&sheet).expect("a correction");
-        hold_faces(side, faces, &together(&handed, &key.correction));
-    }
-    answer
-}
 
 /// The call where nothing is lit, so that the correction is empty and this set is all that faces are to
 /// make up.
@@ -138,7 +78,7 @@ fn lost_edges_count() {
 /// Every syndrome and every set on the tori of sides 1 and 2, with several losses. An even syndrome is
 /// that of 4 or 32 sets, a quarter of which are same and three quarters wound.
 #[test]
-fn every_sheet_of_sides_1_and_2() {
+fn every_syndrome_and_set_of_sides_1_and_2() {
     for (side, losses) in [(1, 4), (2, 11)] {
         let board = torus(side);
         let (vertices, edges) = (board.vertices, board.edges());
@@ -330,7 +270,7 @@ fn random_sheets() {
     assert!([same, wound, off, refused].iter().all(|&count| count > 80));
 }
 
-/// The largest side, with nothing lost and with everything lost.
+/// The largest side, with no, some and all edges lost.
 #[test]
 fn largest_side() {
     let mut random = Random::new(215);
@@ -378,216 +318,4 @@ fn whatever_the_buffer_held() {
             assert_eq!(judged(side, lit, handed), (Err(refusal), left.clone()));
         }
     }
-}
-
-/// The refusal where buffers of these lengths are lent, all 0: syndrome, loss, handed-in set, faces.
-fn lent(side: u32, [syndrome, loss, handed, faces]: [usize; 4]) -> (u8, u64) {
-    let (syndrome, loss, handed) = (vec![0; syndrome], vec![0; loss], vec![0; handed]);
-    refused(agrees::faces_with(side, &syndrome, &loss, &handed, faces))
-}
-
-/// 11 at its limits, before any length; among the sides are some that are in range once cut to 8 or 16
-/// bits, or whose square is once cut to 32.
-#[test]
-fn number_11() {
-    let wrapped = [256, 257, 288, 1 << 16, (1 << 16) + 1, (1 << 16) + 32, 1 << 31, (1 << 31) + 1];
-    for side in [&[0, 33, 34, 64, 1024, u32::MAX - 1, u32::MAX], &wrapped[..]].concat() {
-        let refusal = (11, side.into());
-        assert_eq!(lent(side, [0; 4]), refusal);
-        assert_eq!(lent(side, [1, 2, 2, 1]), refusal, "the lengths of side 1");
-        assert_eq!(lent(side, [1024, 2048, 2048, 1024]), refusal, "those of side 32");
-        assert_eq!(lent(side, [1089, 2178, 2178, 1089]), refusal, "those that side 33 would have");
-        // The builder of that torus refuses alike.
-        assert_eq!(refused(agrees::torus_with(side, 4, 2)), refusal);
-    }
-    for side in [1, 32] {
-        assert!(judge(side, &Lent::blank(side)).is_ok(), "a side at its limit");
-    }
-}
-
-/// 3 for each buffer that is one too short or one too long, and for lengths of other sides.
-#[test]
-fn number_3() {
-    for side in 1..=32_usize {
-        let right = |side: usize| [side * side, 2 * side * side, 2 * side * side, side * side];
-        let mut wrong = vec![right(side - 1), right(side + 1), [0; 4], [1024, 4096, 4096, 1024]];
-        for buffer in 0..4 {
-            for length in [right(side)[buffer] - 1, right(side)[buffer] + 1, 3 * side * side, 0] {
-                let mut lengths = right(side);
-                lengths[buffer] = length;
-                wrong.push(lengths);
-            }
-        }
-        let [vertices, edges, ..] = right(side);
-        wrong.extend([[edges, vertices, edges, vertices], [edges, edges, edges, vertices]]);
-        wrong.extend([[vertices, edges, vertices, edges], [vertices, vertices, edges, edges]]);
-        wrong.extend([[vertices, edges, edges, edges], [vertices, edges + 1, edges - 1, vertices]]);
-        for lengths in wrong {
-            assert_eq!(lent(side as u32, lengths), (3, 0), "side {side}: {lengths:?}");
-        }
-    }
-}
-
-/// The verdict refuses the buffers that both are lent alike, where they are too short or too long.
-#[test]
-fn number_3_as_the_verdict() {
-    for side in 1..=32 {
-        for (_, buffer) in READ {
-            let mut lent = Lent::blank(side);
-            let last = buffer(&mut lent).pop().expect("a byte at least");
-            assert_eq!(refused(judge(side, &lent)), (3, 0), "side {side}: {lent:?}");
-            buffer(&mut lent).extend([last; 2]);
-            assert_eq!(refused(judge(side, &lent)), (3, 0), "side {side}: {lent:?}");
-        }
-    }
-}
-
-/// One of the buffers that are read.
-type Buffer = fn(&mut Lent) -> &mut Vec<u8>;
-
-/// These buffers, each with the number of a byte above 1.
-const READ: [(u8, Buffer); 3] =
-    [(7, |lent| &mut lent.syndrome), (8, |lent| &mut lent.loss), (9, |lent| &mut lent.handed)];
-
-/// 7, 8 and 9 at the first, the last and middle places, and at the smallest of several.
-#[test]
-fn numbers_7_to_9() {
-    for side in [1, 2, 3, 7, 31, 32] {
-        for (number, buffer) in READ {
-            let mut right = Lent::blank(side);
-            // Ones are in range.
-            right.loss.fill(1);
-            let count = buffer(&mut right).len();
-            for byte in [2, 3, 128, 255] {
-                for place in [0, count / 3, count / 2, count - 1] {
-                    let mut lent = right.clone();
-                    buffer(&mut lent)[place] = byte;
-                    assert_eq!(refused(judge(side, &lent)), (number, place as u64));
-                    buffer(&mut lent)[count - 1] = 2;
-                    assert_eq!(refused(judge(side, &lent)), (number, place as u64), "the smallest");
-                }
-                let mut lent = right.clone();
-                buffer(&mut lent).fill(byte);
-                assert_eq!(refused(judge(side, &lent)), (number, 0));
-            }
-        }
-    }
-}
-
-/// 10 exactly where an odd number of vertices is lit, wherever they lie, and before off.
-#[test]
-fn number_10() {
-    let mut random = Random::new(216);
-    let (mut odd, mut even) = (0, 0);
-    for side in 1..=32 {
-        for vertex in [0, side, side * side - 1] {
-            let vertex = vertex % (side * side);
-            let lit = set_of(side * side, &[vertex]);
-            let answer = judge(side, &Lent { syndrome: lit, ..Lent::blank(side) });
-            assert_eq!(answer, Err(Refusal::NoCorrection(0)), "side {side}, vertex {vertex}");
-        }
-        for rate in [100, 500, 1000] {
-            let syndrome = random.set(side * side, rate);
-            let handed = random.set(2 * side * side, 200);
-            let lit = size(&syndrome);
-            let answer = judge(side, &Lent { syndrome, handed, ..Lent::blank(side) });
-            assert_eq!(answer.err(), (lit % 2 == 1).then_some(Refusal::NoCorrection(0)));
-            *(if lit % 2 == 1 { &mut odd } else { &mut even }) += 1;
-        }
-    }
-    assert!(odd > 20 && even > 20, "{odd} odd, {even} even");
-}
-
-/// The tests of the call, in order, each with what it refuses with below.
-const TESTS: [(u8, u64); 6] = [(11, 33), (3, 0), (7, 6), (8, 4), (9, 1), (10, 0)];
-
-/// Every choice of the six tests broken together: the first of them refuses. Of the buffers each is
-/// once too short and once too long.
-#[test]
-fn numbers_in_their_order() {
-    for broken in 1_usize..1 << TESTS.len() {
-        let is_broken = |number: u8| {
-            let test = TESTS.iter().position(|test| test.0 == number).expect("a test of the call");
-            broken >> test & 1 == 1
-        };
-        for wrong in 0..if is_broken(3) { 8 } else { 1 } {
-            let side = if is_broken(11) { 33 } else { 3 };
-            let mut lent = Lent::blank(3);
-            if is_broken(10) {
-                lent.syndrome[5] = 1;
-            }
-            if is_broken(7) {
-                lent.syndrome[6] = 2;
-            }
-            if is_broken(8) {
-                lent.loss[4] = 3;
-            }
-            if is_broken(9) {
-                lent.handed[1] = 255;
-            }
-            let mut faces = 9;
-            if is_broken(3) {
-                let longer = wrong % 2;
-                match wrong / 2 {
-                    0 => lent.syndrome.resize(8 + 2 * longer, 0),
-                    1 => lent.loss.resize(17 + 2 * longer, 0),
-                    2 => lent.handed.resize(17 + 2 * longer, 0),
-                    _ => faces = 8 + 2 * longer,
-                }
-            }
-            let Lent { syndrome, loss, handed } = &lent;
-            let answer = agrees::faces_with(side, syndrome, loss, handed, faces);
-            let first = TESTS[broken.trailing_zeros() as usize];
-            assert_eq!(refused(answer), first, "side {side}, {faces} faces, {lent:?}");
-        }
-    }
-}
-
-/// Changes the length of a buffer now and then.
-fn resize(random: &mut Random, buffer: &mut Vec<u8>) {
-    match random.below(20) {
-        0 => buffer.push(2),
-        1 => drop(buffer.pop()),
-        _ => {}
-    }
-}
-
-/// Puts bytes above 1 into a buffer now and then.
-fn put(random: &mut Random, buffer: &mut [u8]) {
-    if random.chance(150) {
-        for _ in 0..random.from_to(1, 3) {
-            buffer[random.below(buffer.len())] = [2, 3, 255][random.below(3)];
-        }
-    }
-}
-
-/// Sides, lengths and bytes of which each is broken now and then.
-#[test]
-fn several_rules_broken() {
-    let mut random = Random::new(217);
-    let mut seen = [0; 12];
-    for _ in 0..6000 {
-        let side = random.from_to(1, 6);
-        let vertices = side * side;
-        let mut syndrome = random.set(vertices, 300);
-        let [mut loss, mut handed] = [0; 2].map(|_| random.set(2 * vertices, 300));
-        for buffer in [&mut syndrome, &mut loss, &mut handed] {
-            put(&mut random, buffer);
-            resize(&mut random, buffer);
-        }
-        let mut faces = vec![0; vertices];
-        resize(&mut random, &mut faces);
-        let side = match random.below(10) {
-            0 => [0, 33, 65_537, u32::MAX][random.below(4)],
-            _ => side as u32,
-        };
-        match agrees::faces_with(side, &syndrome, &loss, &handed, faces.len()) {
-            Ok(_) => seen[0] += 1,
-            Err(refusal) => seen[usize::from(refusal.number())] += 1,
-        }
-    }
-    println!("refusals by number: {seen:?}");
-    let numbers = [0, 3, 7, 8, 9, 10, 11];
-    assert!(numbers.iter().all(|&number| seen[number] > 200), "{seen:?}");
-    assert_eq!(numbers.map(|number| seen[number]).iter().sum::<usize>(), 6000);
 }

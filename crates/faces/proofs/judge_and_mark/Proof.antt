@@ -21,7 +21,7 @@ mark-faces-requires c κs =
     let judged = told .before .before .before .before in
     let start = begun judged in
     let a = start .args in
-    markable (a .side) (now (a .syndrome)) (now (a .loss)) (now (a .handed)) (now (a .faces)) (start .pre .0) _ _
+    markable (a .side) (now (a .syndrome)) (now (a .loss)) (now (a .handed)) (now (a .faces)) (start .pre .0) _ _ _
     (judged .judge .ensures) (told .enum-told .given .1)
 
 same-length : tie.Need-same-length
@@ -37,7 +37,7 @@ returns c =
     let judged = told .before .before .before .before in
     let start = begun judged in
     let a = start .args in
-    marked (a .side) (now (a .syndrome)) (now (a .loss)) (now (a .handed)) (now (a .faces)) (start .pre .0) _ _
+    marked (a .side) (now (a .syndrome)) (now (a .loss)) (now (a .handed)) (now (a .faces)) (start .pre .0) _ _ _
     (judged .judge .ensures) (told .enum-told .given .1) _ (filled .mark-faces .ensures)
 
 same-length-3 : tie.Need-same-length-3
@@ -48,7 +48,7 @@ returns-2 c =
     let judged = c .before .before .before in
     let start = begun judged in
     let a = start .args in
-    unmarked (a .side) (now (a .syndrome)) (now (a .loss)) (now (a .handed)) (now (a .faces)) (start .pre .0) _ _
+    unmarked (a .side) (now (a .syndrome)) (now (a .loss)) (now (a .handed)) (now (a .faces)) (start .pre .0) _ _ _
     (judged .judge .ensures) (c .match .keys2)
 
 pub judge-and-mark-spec : {M : Type 1} → statement M

@@ -50,7 +50,7 @@ returns c =
     let a = start .args in
     compared (a .side) (now (a .syndrome)) (now (a .loss)) (now (a .handed)) (start .pre .0)
     (now (a .ends)) (now (a .marks)) (now (a .opened)) (now (a .support)) (now (a .correction)) (start .pre .1)
-    _ _ (ended marked .fill-ends .ensures) (marked .fill-marks .ensures) _ _ (judged .compare .ensures)
+    _ _ (ended marked .fill-ends .ensures) (marked .fill-marks .ensures) _ _ _ (judged .compare .ensures)
 
 pub build-and-compare-spec : {M : Type 1} → statement M
 build-and-compare-spec =

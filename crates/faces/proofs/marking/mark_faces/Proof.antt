@@ -12,7 +12,7 @@ use Rattle.model.specs.Faces.{faceOf, faceBytes}
 use Rattle.torus.specs.Filling.{Filled}
 use Rattle.torus.proofs.Filling.{filled-more, filled-all}
 use Rattle.torus.proofs.Numbering.{square-limit}
-use Rattle.faces.proofs.MarkSteps.{first-mark}
+use Rattle.faces.proofs.MarkSteps.{starts-unmarked}
 use Rattle.faces.proofs.marking.mark_faces.Statement.{statement}
 use Rattle.faces.proofs.marking.mark_faces.Tie as tie
 
@@ -36,7 +36,7 @@ loop-holds c =
       omega arith,
       omega (arith, some),
       simp length-set (start .pre .3),
-      first-mark _ _ (now (start .args .faces)) _ (start .pre .0 .least) (omega (arith, start .pre .3, some)) (search needs),
+      starts-unmarked _ _ (now (start .args .faces)) _ (start .pre .0 .least) (omega (arith, start .pre .3, some)) (search needs),
     )
 
 cast-number : tie.Need-cast-number Inv-loop μ-loop
