@@ -17,8 +17,7 @@ abbrev pub secondKind : ℕ → ℕ
 secondKind v = 2 * v + 1
 
 -- Face (r, c) has the number rL + c, which is also that of vertex (r, c), its first corner. Its edges are those of the first kind at (r, c)
--- and (r + 1, c) and those of the second kind at (r, c) and (r, c + 1), modulo L. An edge that is named twice cancels, as both are at side
--- 1.
+-- and (r + 1, c) and those of the second kind at (r, c) and (r, c + 1), modulo L. An edge that is named twice cancels: at side 1 both are.
 abbrev pub inFace : ℕ → ℕ → Set
 inFace L i e =
     (eqb (firstKind i) e ⊕ eqb (firstKind (below L i)) e) ⊕ (eqb (secondKind i) e ⊕ eqb (secondKind (rightOf L i)) e)
