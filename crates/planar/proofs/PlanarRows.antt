@@ -16,6 +16,7 @@ use Rattle.model.specs.Winding.{crossesA, crossesB}
 use Rattle.model.specs.Planar.{planarVertices, planarAt, planarEdges, alongRow, planarFrom, planarTo, planarMark, planarOpen, planarEnd, planarEnds, planarMarks, planarOpens, planar}
 use Rattle.model.proofs.Bits.{eqb-bit}
 use Rattle.model.proofs.ListLaws.{length-values, getD-values}
+use Rattle.torus.proofs.TorusRows.{inside, row-of, column-of}
 use Rattle.planar.proofs.Edges.{first-end, second-end, from-along, to-along, from-down, to-down, down-unmarked}
 
 -- the counts; the ends and the mark of each edge, and what is open, are read off the definition
@@ -72,24 +73,24 @@ open-at L r c in-row in-column =
 
 -- the edge along row r from column c to column c + 1
 module _ (L r c : ℕ) (in-row : r < L) (in-column : c < L) where
-  inside : r * L + c < L * L
-  inside = digits-lt in-row in-column
-
-  row-of : (r * L + c) / L ≡ r
-  row-of = digits-div r in-column
-
-  column-of : (r * L + c) % L ≡ c
-  column-of = digits-mod r in-column
+  here : r * L + c < L * L
+  here = inside L r c in-row in-column
 
   pub along-from : firstEnd (planar L) (r * L + c) ≡ planarAt L r c
-  along-from = first-is L (r * L + c) (omega (arith, inside)) ∙ from-along L (r * L + c) inside ∙ rw (row-of, column-of)
+  along-from =
+      first-is L (r * L + c) (omega (arith, here))
+      ∙ from-along L (r * L + c) here
+      ∙ rw (row-of L r c in-row in-column, column-of L r c in-row in-column)
 
   pub along-to : secondEnd (planar L) (r * L + c) ≡ planarAt L r (c + 1)
   along-to =
-      second-is L (r * L + c) (omega (arith, inside)) ∙ to-along L (r * L + c) inside ∙ rw (row-of, column-of) (omega arith)
+      second-is L (r * L + c) (omega (arith, here))
+      ∙ to-along L (r * L + c) here
+      ∙ rw (row-of L r c in-row in-column, column-of L r c in-row in-column) (omega arith)
 
   pub along-mark : mark (planar L) (r * L + c) ≡ bit (eqb c 0)
-  along-mark = mark-is L (r * L + c) (omega (arith, inside)) ∙ rw (lt-ltb (r * L + c) (L * L) inside, column-of)
+  along-mark =
+      mark-is L (r * L + c) (omega (arith, here)) ∙ rw (lt-ltb (r * L + c) (L * L) here, column-of L r c in-row in-column)
 
 -- the edge down the inner column c from row r to row r + 1
 module _ (L r c : ℕ) (in-row : r < L - 1) (from-one : 1 ≤ c) (in-column : c < L) where
