@@ -26,6 +26,10 @@
  * say so; winding, the distance and the rule on t + 2s mean loops in this wider sense. A cluster, or a
  * part of the board, that holds an open vertex is never odd. With zeros lent all of this is empty: no
  * vertex may be run off, and closed means even everywhere.
+ *
+ * A packed sheet has its syndrome and its losses in 64-bit words, a bit for each vertex and for each
+ * edge: item i is bit i % 64 of word i / 64, bit 0 being the lowest. So n items fill exactly
+ * (n + 63) / 64 words, none where there is no edge, and a bit past the last item must be 0.
  */
 #ifndef SURFACE_TABLE_H
 #define SURFACE_TABLE_H
@@ -39,7 +43,7 @@ extern "C" {
 
 /* Raised by one whenever a call changes: its parameters, its tests or its answers, or a call more or
  * less. Programs and library must be built from one version; nothing else keeps them together. */
-#define SURFACE_VERSION 6
+#define SURFACE_VERSION 7
 
 /* The largest number of vertices and of edges of a board, and of bytes of a text. */
 #define SURFACE_VERTICES 1024
@@ -53,6 +57,10 @@ extern "C" {
 #define SURFACE_SYNDROME SURFACE_VERTICES
 #define SURFACE_LOSS SURFACE_EDGES
 
+/* The largest numbers of words of a packed syndrome and of packed losses. */
+#define SURFACE_SYNDROME_WORDS (SURFACE_VERTICES / 64)
+#define SURFACE_LOSS_WORDS (SURFACE_EDGES / 64)
+
 /* Every call returns 64 bits. Bits 0 to 7 are the refusal's number, or 0 where nothing is refused. */
 static inline unsigned surface_refusal(uint64_t returned) { return (unsigned)(returned & 0xff); }
 
@@ -65,13 +73,15 @@ static inline uint32_t surface_second(uint64_t returned) { return (uint32_t)(ret
 
 /* The refusal's numbers, each with its place. A call that refuses has written nothing. Of all the
  * rules that are broken, the one that the call tests first is returned, at its smallest place. Calls
- * test in the order of the numbers, but for these: 16 and 17 come before 10, 12 and 14, and a call that
- * is lent a side tests it first, surface_faces, surface_torus and surface_stack by 11 and
- * surface_planar by 18; surface_stack tests 15 next. Number 5 is not in use. */
+ * test in the order of the numbers, but for these: 16 and 17 come before 10, 12 and 14, and 19 before
+ * 16; a call that is lent a side tests it first, surface_faces, surface_torus and surface_stack by 11
+ * and surface_planar by 18; surface_stack tests 15 next. By 19 the words of the syndrome are tested
+ * before those of the losses, whatever the place. Number 5 is not in use. */
 enum surface_refusal_number {
     SURFACE_NOT_REFUSED = 0,
     SURFACE_REFUSED_VERTEX_COUNT = 1,    /* place 0 */
-    SURFACE_REFUSED_END_COUNT = 2,       /* place 0; of a board that is given */
+    SURFACE_REFUSED_END_COUNT = 2,       /* place 0; of a board that is given. In surface_pack and
+                                            surface_unpack the edge count is above 4,096 */
     SURFACE_REFUSED_BUFFER_LENGTH = 3,   /* place 0 */
     SURFACE_REFUSED_END_RANGE = 4,       /* the edge */
     SURFACE_REFUSED_MARK_RANGE = 6,      /* the edge */
@@ -79,8 +89,8 @@ enum surface_refusal_number {
     SURFACE_REFUSED_LOSS_BYTE = 8,       /* the edge */
     SURFACE_REFUSED_HANDED_BYTE = 9,     /* the edge */
     SURFACE_REFUSED_NO_CORRECTION = 10,  /* the vertex; surface_decode, surface_decode_rounds,
-                                            surface_verdict and surface_faces alone give it, where
-                                            nothing else is refused */
+                                            surface_decode_packed, surface_verdict and surface_faces
+                                            alone give it, where nothing else is refused */
     SURFACE_REFUSED_TORUS_SIDE = 11,     /* the side */
     SURFACE_REFUSED_TEXT_LENGTH = 12,    /* place 0 */
     SURFACE_REFUSED_MALFORMED_LINE = 13, /* the line, from 1; the first such */
@@ -88,11 +98,12 @@ enum surface_refusal_number {
     SURFACE_REFUSED_ROUND_COUNT = 15,    /* place 0 */
     SURFACE_REFUSED_OPEN_BYTE = 16,      /* the vertex */
     SURFACE_REFUSED_LIT_OPEN = 17,       /* the vertex */
-    SURFACE_REFUSED_PLANAR_SIDE = 18     /* the side */
+    SURFACE_REFUSED_PLANAR_SIDE = 18,    /* the side */
+    SURFACE_REFUSED_PAST_LAST = 19       /* the word, in its own sheet */
 };
 
-/* What a refusal's number says; where it speaks of the edge, the vertex, the side or the line, the
- * place tells which. The string lasts as long as the program. */
+/* What a refusal's number says; where it speaks of the edge, the vertex, the side, the line or the
+ * word, the place tells which. The string lasts as long as the program. */
 static inline const char *surface_refusal_text(unsigned number)
 {
     switch (number) {
@@ -114,6 +125,7 @@ static inline const char *surface_refusal_text(unsigned number)
     case SURFACE_REFUSED_OPEN_BYTE: return "the vertex has an open byte above 1";
     case SURFACE_REFUSED_LIT_OPEN: return "the vertex is open and lit";
     case SURFACE_REFUSED_PLANAR_SIDE: return "the side of a planar board is outside 2 to 31";
+    case SURFACE_REFUSED_PAST_LAST: return "the word has a bit past the last item";
     default: return "no refusal has this number";
     }
 }
@@ -123,6 +135,7 @@ static inline const char *surface_refusal_text(unsigned number)
  * of one thread don't nest, so the largest of those that it makes is enough. */
 #define SURFACE_STACK_DECODE 57344
 #define SURFACE_STACK_DECODE_ROUNDS 57344
+#define SURFACE_STACK_DECODE_PACKED 65536
 #define SURFACE_STACK_VERDICT 65536
 #define SURFACE_STACK_FACES 73728
 #define SURFACE_STACK_DISTANCE 69632
@@ -131,6 +144,10 @@ static inline const char *surface_refusal_text(unsigned number)
 #define SURFACE_STACK_STACK 8192
 #define SURFACE_STACK_READ 32768
 #define SURFACE_STACK_WRITE 98304
+#define SURFACE_STACK_PACK 8192
+#define SURFACE_STACK_UNPACK 8192
+#define SURFACE_STACK_LIT_TOTAL 8192
+#define SURFACE_STACK_LIST_LIT 8192
 
 /* Decodes. Fills `support` with 0 to 2 half-edges and `correction` with 0 or 1, a byte for each edge.
  * The correction has the syndrome, and may end at open vertices, which have none.
@@ -158,6 +175,18 @@ uint64_t surface_decode_rounds(size_t vertices,
                                const uint8_t *open, size_t open_count,
                                const uint8_t *syndrome, size_t syndrome_count,
                                const uint8_t *loss, size_t loss_count,
+                               uint8_t *support, size_t support_count,
+                               uint8_t *correction, size_t correction_count);
+
+/* Decodes a packed sheet. Fills and answers as surface_decode does on the bytes that surface_unpack
+ * makes of the words: the growths, and the number of correction edges. It refuses as surface_decode
+ * does on them, and by 19, where that would test the bytes by 7 and 8, after 6 and before 16. */
+uint64_t surface_decode_packed(size_t vertices,
+                               const uint16_t *ends, size_t ends_count,
+                               const uint8_t *marks, size_t marks_count,
+                               const uint8_t *open, size_t open_count,
+                               const uint64_t *syndrome_words, size_t syndrome_words_count,
+                               const uint64_t *loss_words, size_t loss_words_count,
                                uint8_t *support, size_t support_count,
                                uint8_t *correction, size_t correction_count);
 
@@ -260,6 +289,35 @@ uint64_t surface_write(size_t vertices,
                        const uint8_t *syndrome, size_t syndrome_count,
                        const uint8_t *loss, size_t loss_count,
                        uint8_t *text, size_t text_count);
+
+/* Packs a syndrome and losses, a byte for each vertex and for each edge, each 0 or 1, into exactly
+ * (vertices + 63) / 64 and (edges + 63) / 64 words. Bits past the last item are filled with 0.
+ * First value: the number of syndrome words. Second: the number of loss words. */
+uint64_t surface_pack(size_t vertices, size_t edges,
+                      const uint8_t *syndrome, size_t syndrome_count,
+                      const uint8_t *loss, size_t loss_count,
+                      uint64_t *syndrome_words, size_t syndrome_words_count,
+                      uint64_t *loss_words, size_t loss_words_count);
+
+/* Unpacks the words of a syndrome and of losses into a byte for each vertex and for each edge, 0 or 1.
+ * It undoes surface_pack, and surface_pack undoes it. First value: the vertices. Second: the edges. */
+uint64_t surface_unpack(size_t vertices, size_t edges,
+                        const uint64_t *syndrome_words, size_t syndrome_words_count,
+                        const uint64_t *loss_words, size_t loss_words_count,
+                        uint8_t *syndrome, size_t syndrome_count,
+                        uint8_t *loss, size_t loss_count);
+
+/* Counts the lit vertices of a packed syndrome, which are the set bits in all its words. Writes
+ * nothing. First value: the total. */
+uint64_t surface_lit_total(size_t vertices,
+                           const uint64_t *syndrome_words, size_t syndrome_words_count);
+
+/* Lists the lit vertices of a packed syndrome: writes them, rising, to the front of `list`, which has
+ * exactly one entry for each vertex, and leaves the entries after them as they were. First value: the
+ * total. */
+uint64_t surface_list_lit(size_t vertices,
+                          const uint64_t *syndrome_words, size_t syndrome_words_count,
+                          uint16_t *list, size_t list_count);
 
 #ifdef __cplusplus
 }

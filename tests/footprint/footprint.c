@@ -28,6 +28,9 @@ static uint16_t ends[SURFACE_ENDS];
 static uint8_t marks[SURFACE_MARKS], open_bytes[SURFACE_OPEN], syndrome[SURFACE_SYNDROME], loss[SURFACE_LOSS], handed[SURFACE_EDGES];
 static uint8_t readings[SURFACE_VERTICES];
 static uint8_t support[SURFACE_EDGES], correction[SURFACE_EDGES], shown[SURFACE_EDGES], face_bytes[SURFACE_VERTICES], text[SURFACE_TEXT];
+static uint64_t syndrome_words[SURFACE_SYNDROME_WORDS], loss_words[SURFACE_LOSS_WORDS];
+static uint8_t unpacked_syndrome[SURFACE_SYNDROME], unpacked_loss[SURFACE_LOSS];
+static uint16_t list[SURFACE_VERTICES];
 
 static uint64_t returned;
 
@@ -41,6 +44,15 @@ static void decode_rounds(void)
 {
     returned = surface_decode_rounds(vertices, ends, 2 * edges, marks, edges, open_bytes, vertices, syndrome, vertices, loss, edges, support,
                                      edges, correction, edges);
+}
+
+/* The words that so many items fill. */
+static size_t words(size_t items) { return (items + 63) / 64; }
+
+static void decode_packed(void)
+{
+    returned = surface_decode_packed(vertices, ends, 2 * edges, marks, edges, open_bytes, vertices, syndrome_words, words(vertices), loss_words,
+                                     words(edges), support, edges, correction, edges);
 }
 
 static void verdict(void)
@@ -72,6 +84,21 @@ static void read_text(void)
                             loss, SURFACE_LOSS);
 }
 
+static void pack(void)
+{
+    returned = surface_pack(vertices, edges, syndrome, vertices, loss, edges, syndrome_words, words(vertices), loss_words, words(edges));
+}
+
+static void unpack(void)
+{
+    returned = surface_unpack(vertices, edges, syndrome_words, words(vertices), loss_words, words(edges), unpacked_syndrome, vertices,
+                              unpacked_loss, edges);
+}
+
+static void lit_total(void) { returned = surface_lit_total(vertices, syndrome_words, words(vertices)); }
+
+static void list_lit(void) { returned = surface_list_lit(vertices, syndrome_words, words(vertices), list, vertices); }
+
 /* A call, how many bytes the header says that it needs, the most that it was seen to use, and which answers were seen. */
 struct call {
     const char *name;
@@ -81,11 +108,29 @@ struct call {
     bool answered, refused;
 };
 
-enum { DECODE, DECODE_ROUNDS, VERDICT, FACES, DISTANCE, TORUS, PLANAR, TORUS_STACK, READ, WRITE, CALLS };
+enum {
+    DECODE,
+    DECODE_ROUNDS,
+    DECODE_PACKED,
+    VERDICT,
+    FACES,
+    DISTANCE,
+    TORUS,
+    PLANAR,
+    TORUS_STACK,
+    READ,
+    WRITE,
+    PACK,
+    UNPACK,
+    LIT_TOTAL,
+    LIST_LIT,
+    CALLS
+};
 
 static struct call calls[CALLS] = {
     {"surface_decode", decode, SURFACE_STACK_DECODE, 0, false, false},
     {"surface_decode_rounds", decode_rounds, SURFACE_STACK_DECODE_ROUNDS, 0, false, false},
+    {"surface_decode_packed", decode_packed, SURFACE_STACK_DECODE_PACKED, 0, false, false},
     {"surface_verdict", verdict, SURFACE_STACK_VERDICT, 0, false, false},
     {"surface_faces", faces, SURFACE_STACK_FACES, 0, false, false},
     {"surface_distance", distance, SURFACE_STACK_DISTANCE, 0, false, false},
@@ -94,6 +139,10 @@ static struct call calls[CALLS] = {
     {"surface_stack", torus_stack, SURFACE_STACK_STACK, 0, false, false},
     {"surface_read", read_text, SURFACE_STACK_READ, 0, false, false},
     {"surface_write", write_text, SURFACE_STACK_WRITE, 0, false, false},
+    {"surface_pack", pack, SURFACE_STACK_PACK, 0, false, false},
+    {"surface_unpack", unpack, SURFACE_STACK_UNPACK, 0, false, false},
+    {"surface_lit_total", lit_total, SURFACE_STACK_LIT_TOTAL, 0, false, false},
+    {"surface_list_lit", list_lit, SURFACE_STACK_LIST_LIT, 0, false, false},
 };
 
 /* The bytes that a call uses of a stack of this paint. */
@@ -130,9 +179,20 @@ static void measure(int which)
         call->refused = true;
 }
 
-/* All calls that are lent a board, on the one at hand; what is written is then read. */
+/* The calls that are lent words, on those at hand. */
+static void measure_words(void)
+{
+    measure(UNPACK);
+    measure(LIT_TOTAL);
+    measure(LIST_LIT);
+    measure(DECODE_PACKED);
+}
+
+/* All calls that are lent a board, on the one at hand; what is written is then read, and what is packed unpacked. */
 static void measure_board(void)
 {
+    measure(PACK);
+    measure_words();
     measure(DECODE);
     measure(DECODE_ROUNDS);
     measure(VERDICT);
@@ -201,7 +261,7 @@ static void largest_torus(void)
 }
 
 /* The planar board of the largest side, with an odd number of lit vertices. Then one of the open vertices is lit, and the last has an open
- * byte above 1. */
+ * byte above 1; at last there are bits past the last edge and past the last vertex. */
 static void largest_planar(void)
 {
     side = 31;
@@ -220,6 +280,10 @@ static void largest_planar(void)
     measure_board();
     open_bytes[vertices - 1] = 2;
     measure_board();
+    loss_words[edges / 64] |= UINT64_C(1) << 63;
+    measure_words();
+    syndrome_words[vertices / 64] |= UINT64_C(1) << 63;
+    measure_words();
     side = 32;
     measure(PLANAR);
 }

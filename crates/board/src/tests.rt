@@ -17,7 +17,7 @@ ghost use Rattle.model.specs.Refusals.{refusalOf, edgesOf, edgeRules, byteRules
 ghost use Rattle.board.specs.Checks.{testOf};
 
 // The tests 4 and 6, once the counts have passed.
-fn check_edges(vertices: usize, ends: &[u16], marks: &[u8]) -> Check
+pub fn check_edges(vertices: usize, ends: &[u16], marks: &[u8]) -> Check
     requires { ⌜ (length (now ends) ≤ 2 * edgeLimit) × (length (now marks) ≡ edgesOf (now ends)) ⌝ }
     ensures { λ r. ⌜ testOf r ≡ refusalOf (edgeRules (withoutOpen vertices (before ends) (before marks))) ⌝ }
 {

@@ -1,12 +1,14 @@
--- The numbers of each call's rules, in the order in which they are tested. They rise in every call but five: the builders and the
--- verdict with faces test the side before the lengths, the stack's builder the rounds too, and the writer tests the open bytes before the
--- text. Assumes nothing.
+-- The numbers of each call's rules, in the order in which they are tested. They rise in every call but seven: the builders and the verdict
+-- with faces test the side before the lengths, the stack's builder the rounds too, the writer tests the open bytes before the text,
+-- unpacking has two kinds of words under one number, and decoding of a packed sheet tests both before the open bytes. Assumes nothing.
 use Prim.Native.Nat.{ℕ}
 use mathlib.Core.Path.{_≡_, refl}
+use mathlib.Core.Bool.{Bool}
 use mathlib.Core.List.{List, [], _∷_}
 use Rattle.model.specs.Board.{Board, Sheet}
 use Rattle.model.specs.Refusals.{decodeRules, verdictRules, distanceRules, torusRules, planarRules, stackRules, facesRules}
 use Rattle.model.specs.TextOutcomes.{Buffers, readRules, writeRules}
+use Rattle.model.specs.WordRefusals.{packRules, unpackRules, litRules, decodePackedRules}
 use Rattle.model.specs.Precedence.{Numbered}
 
 -- a rule with places: at each place the refusal computes to the rule's number and to that place
@@ -55,3 +57,25 @@ pub write-numbers : (X : Sheet) (buffer : List ℕ)
 unfolding writeRules
 write-numbers X buffer =
     record { in-turn = (refl, (refl, (refl, (its-place 4, (its-place 6, (its-place 7, (its-place 8, (its-place 16, (its-place 17, (refl, (refl, tt))))))))))) }
+
+pub pack-numbers : (n m : ℕ) (syndrome loss syndromeWords lossWords : List ℕ)
+    → Numbered (1 ∷ 2 ∷ 3 ∷ 7 ∷ 8 ∷ []) (packRules n m syndrome loss syndromeWords lossWords)
+unfolding packRules
+pack-numbers n m syndrome loss syndromeWords lossWords =
+    record { in-turn = (refl, (refl, (refl, (its-place 7, (its-place 8, tt))))) }
+
+pub unpack-numbers : (n m : ℕ) (syndromeWords lossWords syndrome loss : List ℕ)
+    → Numbered (1 ∷ 2 ∷ 3 ∷ 19 ∷ 19 ∷ []) (unpackRules n m syndromeWords lossWords syndrome loss)
+unfolding unpackRules
+unpack-numbers n m syndromeWords lossWords syndrome loss =
+    record { in-turn = (refl, (refl, (refl, (its-place 19, (its-place 19, tt))))) }
+
+pub lit-numbers : (n : ℕ) (words : List ℕ) (others : Bool) → Numbered (1 ∷ 3 ∷ 19 ∷ []) (litRules n words others)
+unfolding litRules
+lit-numbers n words others = record { in-turn = (refl, (refl, (its-place 19, tt))) }
+
+pub decode-packed-numbers : (B : Board) (syndrome loss support correction : List ℕ)
+    → Numbered (1 ∷ 2 ∷ 3 ∷ 4 ∷ 6 ∷ 19 ∷ 19 ∷ 16 ∷ 17 ∷ []) (decodePackedRules B syndrome loss support correction)
+unfolding decodePackedRules
+decode-packed-numbers B syndrome loss support correction =
+    record { in-turn = (refl, (refl, (refl, (its-place 4, (its-place 6, (its-place 19, (its-place 19, (its-place 16, (its-place 17, tt))))))))) }

@@ -7,7 +7,7 @@ use mathlib.Core.List.{List, [], _∷_}
 use lib.Dec.{eqb}
 use Rattle.model.specs.Refusals.{numberOf, placeOf}
 use Rattle.model.specs.declared.refusal.Refusal.{Refusal}
-use Rattle.model.specs.declared.refusal.Refusal.the-variants.{VertexCount, EndCount, BufferLength, EndRange, MarkRange, SyndromeByte, LossByte, HandedByte, NoCorrection, TorusSide, TextLength, MalformedLine, TextBuffer, RoundCount, OpenByte, LitOpen, PlanarSide}
+use Rattle.model.specs.declared.refusal.Refusal.the-variants.{VertexCount, EndCount, BufferLength, EndRange, MarkRange, SyndromeByte, LossByte, HandedByte, NoCorrection, TorusSide, TextLength, MalformedLine, TextBuffer, RoundCount, OpenByte, LitOpen, PlanarSide, PastLast}
 use Rattle.model.specs.declared.answers.Decoded.{Decoded}
 use Rattle.model.specs.declared.answers.Decoded.the-variants as decoded
 use Rattle.model.specs.declared.answers.RoundsDecoded.{RoundsDecoded}
@@ -22,6 +22,10 @@ use Rattle.model.specs.declared.answers.Reading.{Reading}
 use Rattle.model.specs.declared.answers.Reading.the-variants as reading
 use Rattle.model.specs.declared.answers.Written.{Written}
 use Rattle.model.specs.declared.answers.Written.the-variants as written
+use Rattle.model.specs.declared.answers.Packed.{Packed}
+use Rattle.model.specs.declared.answers.Packed.the-variants as words
+use Rattle.model.specs.declared.answers.Lit.{Lit}
+use Rattle.model.specs.declared.answers.Lit.the-variants as lit
 
 -- Packing
 
@@ -71,6 +75,16 @@ abbrev pub packedWritten : Written → ℕ
 packedWritten (written.Bytes n) = packed n 0
 packedWritten (written.Refused n) = packedRefusal n
 
+-- syndrome words, loss words
+abbrev pub packedWords : Packed → ℕ
+packedWords (words.Words syndrome loss) = packed syndrome loss
+packedWords (words.Refused n) = packedRefusal n
+
+-- total, 0
+abbrev pub packedLit : Lit → ℕ
+packedLit (lit.Total t) = packed t 0
+packedLit (lit.Refused n) = packedRefusal n
+
 -- Taking apart
 
 -- bits 0 to 7, bits 8 to 63, bits 8 to 39 and bits 40 to 63 of a number below 2 ^ 64
@@ -106,6 +120,7 @@ refusalsAt at =
     ∷ OpenByte (record { 0 = at })
     ∷ LitOpen (record { 0 = at })
     ∷ PlanarSide at
+    ∷ PastLast (record { 0 = at })
     ∷ []
 
 -- the first refusal of a list that has the number n; where none has it, number 14
@@ -153,3 +168,9 @@ unpackedReading = unpacked reading.Refused reading.Counts
 
 unfoldable pub unpackedWritten : ℕ → Written
 unpackedWritten = unpacked written.Refused (λ bytes rest. written.Bytes bytes)
+
+unfoldable pub unpackedWords : ℕ → Packed
+unpackedWords = unpacked words.Refused words.Words
+
+unfoldable pub unpackedLit : ℕ → Lit
+unpackedLit = unpacked lit.Refused (λ total rest. lit.Total total)

@@ -8,7 +8,7 @@ use mathlib.Core.Option.{Option, none, some}
 use lib.ListN.{length, getD}
 use lib.Dec.{eqb, leb, ltb}
 use Rattle.model.specs.declared.refusal.Refusal.{Refusal}
-use Rattle.model.specs.declared.refusal.Refusal.the-variants.{VertexCount, EndCount, BufferLength, EndRange, MarkRange, SyndromeByte, LossByte, HandedByte, NoCorrection, TorusSide, TextLength, MalformedLine, TextBuffer, RoundCount, OpenByte, LitOpen, PlanarSide}
+use Rattle.model.specs.declared.refusal.Refusal.the-variants.{VertexCount, EndCount, BufferLength, EndRange, MarkRange, SyndromeByte, LossByte, HandedByte, NoCorrection, TorusSide, TextLength, MalformedLine, TextBuffer, RoundCount, OpenByte, LitOpen, PlanarSide, PastLast}
 use Rattle.model.specs.Sums.{Set, ones, firstUpTo}
 use Rattle.model.specs.Board.{Board, Sheet, edges, firstEnd, secondEnd, vertexLimit, edgeLimit}
 use Rattle.model.specs.Decoding.{smallestOdd}
@@ -35,8 +35,9 @@ numberOf RoundCount = 15
 numberOf (OpenByte v) = 16
 numberOf (LitOpen v) = 17
 numberOf (PlanarSide side) = 18
+numberOf (PastLast w) = 19
 
--- its place: an edge, a vertex, the side or a line; where the table of document 01 has place 0, 0
+-- its place: an edge, a vertex, the side, a line or a word; where the table of document 01 has place 0, 0
 abbrev pub placeOf : Refusal → ℕ
 placeOf VertexCount = 0
 placeOf EndCount = 0
@@ -55,6 +56,7 @@ placeOf RoundCount = 0
 placeOf (OpenByte v) = v .0
 placeOf (LitOpen v) = v .0
 placeOf (PlanarSide side) = side
+placeOf (PastLast w) = w .0
 
 -- A rule is kept or not as a whole, or broken at some of n places; each way to break it has its refusal.
 pub data Rule : Type 0 where

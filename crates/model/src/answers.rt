@@ -35,7 +35,7 @@ pub enum Built {
     Refused(Refusal),
 }
 
-// What the reader of a text answers: both counts, or a refusal.
+// What the reader of a text and unpacking answer: both counts, or a refusal.
 pub enum Reading {
     Counts { vertices: usize, edges: usize },
     Refused(Refusal),
@@ -44,5 +44,17 @@ pub enum Reading {
 // What the writer of a text answers: the byte count, or a refusal.
 pub enum Written {
     Bytes(usize),
+    Refused(Refusal),
+}
+
+// What packing answers: how many words the syndrome and the losses fill, or a refusal.
+pub enum Packed {
+    Words { syndrome: usize, loss: usize },
+    Refused(Refusal),
+}
+
+// What the lit total and the list of lit vertices answer: the total, or a refusal.
+pub enum Lit {
+    Total(usize),
     Refused(Refusal),
 }

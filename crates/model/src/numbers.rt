@@ -1,4 +1,4 @@
-// Four kinds of number. Each is a type of its own, so that none can stand where another is meant.
+// Five kinds of number. Each is a type of its own, so that none can stand where another is meant.
 ghost use mathlib.Core.Path.{_≡_};
 ghost use lib.Dec.{eqb};
 
@@ -10,6 +10,9 @@ pub struct Edge(pub u16);
 
 // A face number of a torus, from 0.
 pub struct Face(pub u16);
+
+// The number of a word of a packed sheet, from 0.
+pub struct Word(pub u16);
 
 // A count of half-edges: the support of an edge.
 pub struct HalfEdges(pub u8);

@@ -1,5 +1,6 @@
 use crate::numbers::Edge;
 use crate::numbers::Vertex;
+use crate::numbers::Word;
 ghost use mathlib.Core.Path.{_≡_};
 ghost use Rattle.model.specs.Refusals.{numberOf, placeOf};
 
@@ -22,6 +23,7 @@ pub enum Refusal {
     OpenByte(Vertex),
     LitOpen(Vertex),
     PlanarSide(usize),
+    PastLast(Word),
 }
 
 // The refusal's number.
@@ -46,10 +48,11 @@ pub fn number(refusal: Refusal) -> u8
         Refusal::OpenByte(_) => 16,
         Refusal::LitOpen(_) => 17,
         Refusal::PlanarSide(_) => 18,
+        Refusal::PastLast(_) => 19,
     }
 }
 
-// The refusal's place: an edge, a vertex, a side, a line, or 0 where there is none.
+// The refusal's place: an edge, a vertex, a side, a line, a word, or 0 where there is none.
 pub fn place(refusal: Refusal) -> usize
     ensures { λ r. ⌜ r ≡ placeOf refusal ⌝ }
 {
@@ -71,5 +74,6 @@ pub fn place(refusal: Refusal) -> usize
         Refusal::OpenByte(v) => v.0 as usize,
         Refusal::LitOpen(v) => v.0 as usize,
         Refusal::PlanarSide(side) => side,
+        Refusal::PastLast(w) => w.0 as usize,
     }
 }

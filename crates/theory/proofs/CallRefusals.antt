@@ -1,11 +1,12 @@
 -- Document 01, "Numbers and places", of each call: of all refusals that apply it gives the one with the smallest number, and of those with
--- that number the one with the smallest place. The numbers of the rules rise in all calls but five: the builders and the verdict with faces
--- test the side before the lengths, the stack's builder the rounds too, and the writer the open bytes before the text; of these it is the
--- first rule of the list that is broken. Outside the lists stand 10, which decoding, in rounds too, and the verdict, with faces too, give
--- only where nothing of their lists applies, and 13, which the reader gives alike. Assumes nothing.
+-- that number the one with the smallest place. The numbers of the rules rise in all calls but seven: the builders and the verdict with
+-- faces test the side before the lengths, the stack's builder the rounds too, the writer tests the open bytes before the text, unpacking
+-- has two kinds of words under one number, and decoding of a packed sheet tests both before the open bytes; of these it is the first rule
+-- of the list that is broken. Outside the lists stand 10, which decoding, in rounds and of a packed sheet too, and the verdict, with faces
+-- too, give only where nothing of their lists applies, and 13, which the reader gives alike. Assumes nothing.
 use Prim.Native.Nat.{ℕ, _*_, _≤_}
 use mathlib.Core.Path.{_≡_, refl, ap, _∙_}
-use mathlib.Core.Bool.{_&&_}
+use mathlib.Core.Bool.{Bool, true, _&&_}
 use mathlib.Core.Logic.{_↔_, _≢_}
 use mathlib.Core.List.{List, [], _∷_}
 use mathlib.Core.Option.{none, some}
@@ -20,6 +21,8 @@ use Rattle.model.specs.declared.answers.Verdict.the-variants as verdict
 use Rattle.model.specs.declared.answers.Distance.the-variants as distance
 use Rattle.model.specs.declared.answers.Built.the-variants as built
 use Rattle.model.specs.declared.answers.Reading.the-variants as reading
+use Rattle.model.specs.declared.answers.Packed.the-variants as packed
+use Rattle.model.specs.declared.answers.Lit.the-variants as lit
 use Rattle.model.specs.Board.{Board, Sheet, vertexLimit}
 use Rattle.model.specs.Torus.{leastSide, largestSide}
 use Rattle.model.specs.Planar.{leastPlanar, largestPlanar, planarVertices, planarEdges}
@@ -31,10 +34,13 @@ use Rattle.model.specs.FacesOutcomes.{torusSheet, facesAnswer}
 use Rattle.model.specs.Distance.{fewest}
 use Rattle.model.specs.Text.{refused, readText}
 use Rattle.model.specs.TextOutcomes.{Buffers, readRules, readRefusal, readOutcome, counts, writeRules, writeRefusal}
+use Rattle.model.specs.Words.{wordCount, litTotal}
+use Rattle.model.specs.WordRefusals.{packRules, packRefusal, unpackRules, unpackRefusal, litRules, litRefusal, decodePackedRules, decodePackedRefusal}
+use Rattle.model.specs.WordOutcomes.{packAnswer, litAnswer, listAnswer, sheetIn, decodePackedAnswer}
 use Rattle.model.specs.Precedence.{Applies, here, there, NoneApplies, Decides, Smallest, AnswersSmallest}
 use Rattle.model.proofs.Contradiction.{zero-one}
 use Rattle.model.proofs.Xor.{and-left, and-right, not-false-true}
-use Rattle.model.proofs.RuleNumbers.{decode-numbers, verdict-numbers, distance-numbers, torus-numbers, planar-numbers, stack-numbers, faces-numbers, read-numbers, write-numbers}
+use Rattle.model.proofs.RuleNumbers.{decode-numbers, verdict-numbers, distance-numbers, torus-numbers, planar-numbers, stack-numbers, faces-numbers, read-numbers, write-numbers, pack-numbers, unpack-numbers, lit-numbers, decode-packed-numbers}
 use Rattle.theory.proofs.Precedence.{empty-applies, decides-exactly, earlier-kept, other-number}
 use Rattle.theory.proofs.SmallestNumber.{smallest-exactly, answers-smallest}
 
@@ -225,3 +231,57 @@ unfolding facesAnswer facesRefusal
 faces-last L syndrome loss handed faces v =
     other-number (faces-numbers L syndrome loss handed faces) (noneAt v) refl verdict.Refused
     (judgedOrNone (torusSheet L syndrome loss) handed) (λ q e. cc)
+
+-- Packing
+
+pub pack-smallest : (n m : ℕ) (syndrome loss syndromeWords lossWords : List ℕ) (r : Refusal)
+    → (packRefusal n m syndrome loss syndromeWords lossWords ≡ some r) ↔ Smallest (packRules n m syndrome loss syndromeWords lossWords) r
+unfolding packRefusal
+pack-smallest n m syndrome loss syndromeWords lossWords = smallest-exactly (pack-numbers n m syndrome loss syndromeWords lossWords) refl
+
+pub pack-answers : (n m : ℕ) (syndrome loss syndromeWords lossWords : List ℕ) (q : Refusal)
+    → Applies (packRules n m syndrome loss syndromeWords lossWords) q
+    → AnswersSmallest (packRules n m syndrome loss syndromeWords lossWords) packed.Refused
+    (packAnswer n m syndrome loss syndromeWords lossWords)
+unfolding packAnswer packRefusal
+pack-answers n m syndrome loss syndromeWords lossWords =
+    answers-smallest (pack-numbers n m syndrome loss syndromeWords lossWords) refl packed.Refused (packed.Words (wordCount n) (wordCount m))
+
+-- Unpacking: 19 of the syndrome's words before 19 of the loss words
+
+pub unpack-decides : (n m : ℕ) (syndromeWords lossWords syndrome loss : List ℕ) (r : Refusal)
+    → (unpackRefusal n m syndromeWords lossWords syndrome loss ≡ some r) ↔ Decides (unpackRules n m syndromeWords lossWords syndrome loss) r
+unfolding unpackRefusal
+unpack-decides n m syndromeWords lossWords syndrome loss = decides-exactly (unpack-numbers n m syndromeWords lossWords syndrome loss)
+
+-- The lit total and the list of lit vertices
+
+pub lit-smallest : (n : ℕ) (words : List ℕ) (others : Bool) (r : Refusal)
+    → (litRefusal n words others ≡ some r) ↔ Smallest (litRules n words others) r
+unfolding litRefusal
+lit-smallest n words others = smallest-exactly (lit-numbers n words others) refl
+
+pub lit-answers : (n : ℕ) (words : List ℕ) (q : Refusal) → Applies (litRules n words true) q
+    → AnswersSmallest (litRules n words true) lit.Refused (litAnswer n words)
+unfolding litAnswer litRefusal
+lit-answers n words = answers-smallest (lit-numbers n words true) refl lit.Refused (lit.Total (litTotal words))
+
+pub list-answers : (n : ℕ) (words list : List ℕ) (q : Refusal) → Applies (litRules n words (sized list n)) q
+    → AnswersSmallest (litRules n words (sized list n)) lit.Refused (listAnswer n words list)
+unfolding listAnswer litRefusal
+list-answers n words list = answers-smallest (lit-numbers n words (sized list n)) refl lit.Refused (lit.Total (litTotal words))
+
+-- Decoding of a packed sheet: 19 before 16 and 17, and 10 last
+
+pub decode-packed-decides : (B : Board) (syndrome loss support correction : List ℕ) (r : Refusal)
+    → (decodePackedRefusal B syndrome loss support correction ≡ some r) ↔ Decides (decodePackedRules B syndrome loss support correction) r
+unfolding decodePackedRefusal
+decode-packed-decides B syndrome loss support correction = decides-exactly (decode-packed-numbers B syndrome loss support correction)
+
+pub decode-packed-last : (B : Board) (syndrome loss support correction : List ℕ) (v : ℕ)
+    → decodePackedAnswer B syndrome loss support correction ≡ decoded.Refused (noneAt v)
+    → NoneApplies (decodePackedRules B syndrome loss support correction)
+unfolding decodePackedAnswer decodePackedRefusal
+decode-packed-last B syndrome loss support correction v =
+    other-number (decode-packed-numbers B syndrome loss support correction) (noneAt v) refl decoded.Refused
+    (keyOrNone (sheetIn B syndrome loss)) (λ q e. cc)

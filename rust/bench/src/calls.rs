@@ -1,4 +1,4 @@
-//! The last table: the distance, and reading and writing a text.
+//! The fourth table: the distance, and reading and writing a text.
 
 use std::hint::black_box;
 

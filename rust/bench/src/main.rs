@@ -1,6 +1,6 @@
 //! Prints the library's times beside those of programs with the same steps that keep no boundary
 //! sizes: one plain, one tuned with care, and one that counts from the other side; its times of
-//! decoding in rounds; and what a growth and each of the other calls costs.
+//! decoding in rounds; and what a growth, each of the other calls and a packed sheet costs.
 //!
 //! All are built for release and run on one machine, on the same seeded sheets and into the same
 //! buffers, which are not cleared in between. Keys are compared on all sheets before a time is taken.
@@ -11,6 +11,7 @@ mod calls;
 mod decoders;
 mod growths;
 mod machine;
+mod packed;
 mod timing;
 mod tori;
 
@@ -26,4 +27,6 @@ fn main() {
     growths::table(&mut decoders);
     println!();
     calls::table();
+    println!();
+    packed::table();
 }

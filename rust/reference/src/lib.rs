@@ -2,9 +2,9 @@
 //!
 //! Nothing here is clever or fast: each section of document 01 is one module, in its words, and so are
 //! growing in rounds ([`rounds`]), open sides ([`open_sides`], [`planar`]), repeated readings
-//! ([`stack`]) and faces as evidence ([`faces`]), which document 02 adds. Beside them stand a second
-//! way to find the number of a malformed line ([`line_numbers`]), a seeded generator of random numbers,
-//! and the boards that decoders are tried on.
+//! ([`stack`]), faces as evidence ([`faces`]) and packed sheets ([`packed`]), which document 02 adds.
+//! Beside them stand a second way to find the number of a malformed line ([`line_numbers`]), a seeded
+//! generator of random numbers, and the boards that decoders are tried on.
 //!
 //! A set of vertices or edges is a slice with a byte for each, 0 or 1, as the calls are lent it.
 
@@ -18,6 +18,7 @@ pub mod generators;
 pub mod growth;
 pub mod line_numbers;
 pub mod open_sides;
+pub mod packed;
 pub mod peeling;
 pub mod planar;
 pub mod program;
@@ -31,6 +32,7 @@ pub mod verdict;
 
 pub use board::{Board, Sheet};
 pub use decoding::{Key, decode};
+pub use packed::PackedSheet;
 pub use random::Random;
 pub use refusal::Refusal;
 pub use rounds::{RoundsKey, decode_rounds};

@@ -1,9 +1,11 @@
 //! Document 01, "Numbers and places": the tests of each call, in the order of their numbers. By
 //! document 02, K3, equal ends break no rule, so that number 5 never occurs; by K5 the open bytes are
 //! tested after 8 and 9 and before 10; by K1 a stack's rounds are tested after its side and before any
-//! length; by K9 the verdict with faces tests the side before all else.
+//! length; by K9 the verdict with faces tests the side before all else; by K7 words are tested right
+//! after 8.
 
 use crate::board::{Board, EDGE_LIMIT, Sheet, VERTEX_LIMIT};
+use crate::packed::{PackedSheet, WORD, is_set, unpacked, words_of};
 
 /// Why a call refuses: the number of the rule that is broken, and where.
 #[derive(Clone, Copy, Debug, PartialEq, Eq)]
@@ -40,9 +42,13 @@ fn first_place(number: u8, count: usize, broken: impl Fn(usize) -> bool) -> Test
 /// with the length that it must have.
 fn counts(board: &Board, lengths: &[(usize, usize)]) -> Test {
     let ends = board.ends.len();
-    unless((1..=VERTEX_LIMIT).contains(&board.vertices), 1, 0)?;
+    vertex_count(board.vertices)?;
     unless(ends.is_multiple_of(2) && ends <= 2 * EDGE_LIMIT, 2, 0)?;
     buffer_lengths(lengths)
+}
+
+fn vertex_count(vertices: usize) -> Test {
+    unless((1..=VERTEX_LIMIT).contains(&vertices), 1, 0)
 }
 
 fn buffer_lengths(lengths: &[(usize, usize)]) -> Test {
@@ -185,4 +191,96 @@ pub fn reader(ends: usize, marks: usize, open: usize, syndrome: usize, loss: usi
 pub fn writer(lent: &Sheet) -> Test {
     sheet(lent, &[])?;
     open_sides(lent)
+}
+
+/// Numbers 1 and 2 of a call that is lent counts in place of a board.
+fn lent_counts((vertices, edges): (usize, usize)) -> Test {
+    vertex_count(vertices)?;
+    unless(edges <= EDGE_LIMIT, 2, 0)
+}
+
+/// Number 19: a bit past the last of so many items, in the words that these fill.
+fn words(items: usize, lent: &[u64]) -> Test {
+    let bits = WORD * lent.len();
+    match (items..bits).find(|&bit| is_set(lent, bit)) {
+        Some(bit) => refuse(19, bit / WORD),
+        None => Ok(()),
+    }
+}
+
+/// The tests of packing, which is lent buffers for so many words to fill.
+pub fn packing(
+    (vertices, edges): (usize, usize),
+    syndrome: &[u8],
+    loss: &[u8],
+    (syndrome_words, loss_words): (usize, usize),
+) -> Test {
+    lent_counts((vertices, edges))?;
+    buffer_lengths(&[
+        (syndrome.len(), vertices),
+        (loss.len(), edges),
+        (syndrome_words, words_of(vertices)),
+        (loss_words, words_of(edges)),
+    ])?;
+    bytes(7, syndrome)?;
+    bytes(8, loss)
+}
+
+/// The tests of unpacking, which is lent buffers for so many bytes to fill.
+pub fn unpacking(
+    (vertices, edges): (usize, usize),
+    syndrome_words: &[u64],
+    loss_words: &[u64],
+    (syndrome, loss): (usize, usize),
+) -> Test {
+    lent_counts((vertices, edges))?;
+    buffer_lengths(&[
+        (syndrome_words.len(), words_of(vertices)),
+        (loss_words.len(), words_of(edges)),
+        (syndrome, vertices),
+        (loss, edges),
+    ])?;
+    words(vertices, syndrome_words)?;
+    words(edges, loss_words)
+}
+
+/// The tests of the lit total.
+pub fn lit_total(vertices: usize, lent: &[u64]) -> Test {
+    vertex_count(vertices)?;
+    buffer_lengths(&[(lent.len(), words_of(vertices))])?;
+    words(vertices, lent)
+}
+
+/// The tests of listing lit vertices, which is lent a list of this length to fill.
+pub fn listing(vertices: usize, lent: &[u64], list: usize) -> Test {
+    vertex_count(vertices)?;
+    buffer_lengths(&[(lent.len(), words_of(vertices)), (list, vertices)])?;
+    words(vertices, lent)
+}
+
+/// The tests of decoding a packed sheet, which is lent buffers of these lengths to fill; all but number
+/// 10. The plain sheet, where it passes them.
+pub fn packed_decoding(
+    lent: &PackedSheet,
+    support: usize,
+    correction: usize,
+) -> Result<Sheet, Refusal> {
+    let PackedSheet { board, syndrome, loss } = lent;
+    let count = board.edges();
+    let lengths = [
+        (board.marks.len(), count),
+        (board.open.len(), board.vertices),
+        (syndrome.len(), words_of(board.vertices)),
+        (loss.len(), words_of(count)),
+        (support, count),
+        (correction, count),
+    ];
+    counts(board, &lengths)?;
+    edges(board)?;
+    words(board.vertices, syndrome)?;
+    words(count, loss)?;
+    let syndrome = unpacked(syndrome, board.vertices);
+    let plain = Sheet { board: board.clone(), syndrome, loss: unpacked(loss, count) };
+    open_sides(&plain)?;
+    Ok(plain)
 }

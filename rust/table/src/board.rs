@@ -37,3 +37,16 @@ pub struct Sheet<'a> {
     /// A byte for each edge, 1 where it is lost, else 0.
     pub loss: &'a [u8],
 }
+
+/// A board with its syndrome and its lost edges, each packed into words: item i, a vertex or an edge,
+/// is bit i % 64 of word i / 64. So many items fill a word for each 64 of them, and one more for the
+/// rest; no bit past the last item is set.
+#[derive(Clone, Copy, Debug, PartialEq, Eq)]
+pub struct PackedSheet<'a> {
+    /// The board that was drawn.
+    pub board: Board<'a>,
+    /// A bit for each vertex, 1 where it is in the syndrome, else 0; 0 at each open vertex.
+    pub syndrome: &'a [u64],
+    /// A bit for each edge, 1 where it is lost, else 0.
+    pub loss: &'a [u64],
+}

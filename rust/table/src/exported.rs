@@ -59,6 +59,24 @@ unsafe extern "C" {
         correction_count: usize,
     ) -> u64;
 
+    pub fn surface_decode_packed(
+        vertices: usize,
+        ends: *const u16,
+        ends_count: usize,
+        marks: *const u8,
+        marks_count: usize,
+        open: *const u8,
+        open_count: usize,
+        syndrome_words: *const u64,
+        syndrome_words_count: usize,
+        loss_words: *const u64,
+        loss_words_count: usize,
+        support: *mut u8,
+        support_count: usize,
+        correction: *mut u8,
+        correction_count: usize,
+    ) -> u64;
+
     pub fn surface_verdict(
         vertices: usize,
         ends: *const u16,
@@ -159,5 +177,45 @@ unsafe extern "C" {
         loss_count: usize,
         text: *mut u8,
         text_count: usize,
+    ) -> u64;
+
+    pub fn surface_pack(
+        vertices: usize,
+        edges: usize,
+        syndrome: *const u8,
+        syndrome_count: usize,
+        loss: *const u8,
+        loss_count: usize,
+        syndrome_words: *mut u64,
+        syndrome_words_count: usize,
+        loss_words: *mut u64,
+        loss_words_count: usize,
+    ) -> u64;
+
+    pub fn surface_unpack(
+        vertices: usize,
+        edges: usize,
+        syndrome_words: *const u64,
+        syndrome_words_count: usize,
+        loss_words: *const u64,
+        loss_words_count: usize,
+        syndrome: *mut u8,
+        syndrome_count: usize,
+        loss: *mut u8,
+        loss_count: usize,
+    ) -> u64;
+
+    pub fn surface_lit_total(
+        vertices: usize,
+        syndrome_words: *const u64,
+        syndrome_words_count: usize,
+    ) -> u64;
+
+    pub fn surface_list_lit(
+        vertices: usize,
+        syndrome_words: *const u64,
+        syndrome_words_count: usize,
+        list: *mut u16,
+        list_count: usize,
     ) -> u64;
 }

@@ -34,12 +34,11 @@
 mod board;
 mod calls;
 mod exported;
-mod packed;
 mod refusal;
+mod returned;
 
-pub use board::{Board, EDGES, Sheet, TEXT, VERTICES};
-pub use calls::{Counts, Key, RoundsKey, Verdict};
-pub use calls::{
-    decode, decode_rounds, distance, faces, planar, read, stack, torus, verdict, write,
-};
+pub use board::{Board, EDGES, PackedSheet, Sheet, TEXT, VERTICES};
+pub use calls::{Counts, Key, RoundsKey, Verdict, WordCounts};
+pub use calls::{decode, decode_packed, decode_rounds, distance, faces, verdict};
+pub use calls::{list_lit, lit_total, pack, planar, read, stack, torus, unpack, write};
 pub use refusal::Refusal;

@@ -9,9 +9,10 @@ use crate::{EDGES, TEXT, VERTICES};
 ///
 /// Of all the rules that a call's buffers break, the one that the call tests first is given, at its
 /// smallest place. That is the one with the smallest number, but for these: 16 and 17 are tested
-/// before 10, 12 and 14, and a call that is lent a side tests it before all else, by number 11 or, for
-/// a planar board, 18; the builder of stacks tests 15 next. Number 5 is not in use. A call that refuses
-/// has written nothing. What is displayed is a sentence with the place.
+/// before 10, 12 and 14, and 19 before all of these; a call that is lent a side tests it before all
+/// else, by number 11 or, for a planar board, 18; the builder of stacks tests 15 next. By 19 the words
+/// of the syndrome are tested before those of the loss. Number 5 is not in use. A call that refuses has
+/// written nothing. What is displayed is a sentence with the place.
 ///
 /// # Examples
 ///
@@ -29,7 +30,8 @@ use crate::{EDGES, TEXT, VERTICES};
 pub enum Refusal {
     /// Number 1: the vertex count is 0 or above [`VERTICES`](crate::VERTICES).
     VertexCount,
-    /// Number 2: the count of a given board's ends is odd, or above twice [`EDGES`](crate::EDGES).
+    /// Number 2: the count of a given board's ends is odd, or above twice [`EDGES`](crate::EDGES); in
+    /// packing and unpacking, the edge count is above [`EDGES`](crate::EDGES).
     EndCount,
     /// Number 3: another buffer has the wrong length.
     BufferLength,
@@ -63,6 +65,8 @@ pub enum Refusal {
     LitOpen(usize),
     /// Number 18: no planar board is built with this side.
     PlanarSide(u32),
+    /// Number 19: this word, of the syndrome's or of the loss's, has a bit past the last item.
+    PastLast(usize),
 }
 
 impl Refusal {
@@ -87,10 +91,11 @@ impl Refusal {
             Refusal::OpenByte(_) => 16,
             Refusal::LitOpen(_) => 17,
             Refusal::PlanarSide(_) => 18,
+            Refusal::PastLast(_) => 19,
         }
     }
 
-    /// The vertex, edge, side or line where the rule is broken; 0 where the rule has no place.
+    /// The vertex, edge, side, line or word where the rule is broken; 0 where the rule has no place.
     #[must_use]
     pub const fn place(self) -> u64 {
         match self {
@@ -108,17 +113,19 @@ impl Refusal {
             | Refusal::NoCorrection(place)
             | Refusal::MalformedLine(place)
             | Refusal::OpenByte(place)
-            | Refusal::LitOpen(place) => place as u64,
+            | Refusal::LitOpen(place)
+            | Refusal::PastLast(place) => place as u64,
             Refusal::TorusSide(side) | Refusal::PlanarSide(side) => side as u64,
         }
     }
 
-    /// The refusal with this number and place, where there is one. An edge, a vertex or a line is
-    /// below the limits; a text has at most one line more than bytes.
+    /// The refusal with this number and place, where there is one. An edge, a vertex, a line or a word
+    /// is below the limits; a text has at most one line more than bytes.
     pub(crate) fn new(number: u8, place: u64) -> Option<Refusal> {
         let at = usize::try_from(place).ok()?;
         let edge = (at < EDGES).then_some(at);
         let vertex = (at < VERTICES).then_some(at);
+        let word = (at < EDGES.div_ceil(64)).then_some(at);
         let refusal = match number {
             1 => Refusal::VertexCount,
             2 => Refusal::EndCount,
@@ -137,6 +144,7 @@ impl Refusal {
             16 => Refusal::OpenByte(vertex?),
             17 => Refusal::LitOpen(vertex?),
             18 => Refusal::PlanarSide(u32::try_from(place).ok()?),
+            19 => Refusal::PastLast(word?),
             _ => return None,
         };
         (refusal.place() == place).then_some(refusal)
@@ -173,6 +181,7 @@ impl fmt::Display for Refusal {
             Refusal::PlanarSide(side) => {
                 write!(to, "side {side} of a planar board is outside 2 to 31")
             }
+            Refusal::PastLast(word) => write!(to, "word {word} has a bit past the last item"),
         }
     }
 }
@@ -184,7 +193,7 @@ mod tests {
     use super::Refusal;
 
     /// Each number with its smallest and its largest place.
-    const PLACES: [(u8, u64, u64); 17] = [
+    const PLACES: [(u8, u64, u64); 18] = [
         (1, 0, 0),
         (2, 0, 0),
         (3, 0, 0),
@@ -202,6 +211,7 @@ mod tests {
         (16, 0, 1023),
         (17, 0, 1023),
         (18, 0, u32::MAX as u64),
+        (19, 0, 63),
     ];
 
     #[test]
@@ -221,7 +231,7 @@ mod tests {
 
     #[test]
     fn other_numbers_are_no_refusal() {
-        for number in (19..=u8::MAX).chain([0, 5]) {
+        for number in (20..=u8::MAX).chain([0, 5]) {
             for place in [0, 1, 4095] {
                 assert_eq!(Refusal::new(number, place), None, "{number}");
             }

@@ -19,66 +19,10 @@ use reference::{Key, Refusal as PlainRefusal, RoundsKey};
 use table::{Counts, Refusal, Verdict};
 
 use crate::guarded::Guarded;
-
-const BYTE_GUARD: u8 = 0xa5;
-const END_GUARD: u16 = 0xa5c3;
-
-/// What a buffer of bytes holds before the call.
-fn noise(count: usize) -> Vec<u8> {
-    (0..count).map(|i| (i * 37 + 101) as u8).collect()
-}
-
-/// What a buffer of ends holds before the call.
-fn end_noise(count: usize) -> Vec<u16> {
-    (0..count).map(|i| (i * 7919 + 40_503) as u16).collect()
-}
-
-/// The buffers of a sheet, lent to be read.
-struct LentSheet<'a> {
-    sheet: &'a Sheet,
-    ends: Guarded<u16>,
-    marks: Guarded<u8>,
-    open: Guarded<u8>,
-    syndrome: Guarded<u8>,
-    loss: Guarded<u8>,
-}
-
-impl LentSheet<'_> {
-    fn new(sheet: &Sheet) -> LentSheet<'_> {
-        LentSheet {
-            sheet,
-            ends: Guarded::new(&sheet.board.ends, END_GUARD),
-            marks: Guarded::new(&sheet.board.marks, BYTE_GUARD),
-            open: Guarded::new(&sheet.board.open, BYTE_GUARD),
-            syndrome: Guarded::new(&sheet.syndrome, BYTE_GUARD),
-            loss: Guarded::new(&sheet.loss, BYTE_GUARD),
-        }
-    }
-
-    fn lent(&mut self) -> table::Sheet<'_> {
-        table::Sheet {
-            board: table::Board {
-                vertices: self.sheet.board.vertices,
-                ends: self.ends.lent(),
-                marks: self.marks.lent(),
-                open: self.open.lent(),
-            },
-            syndrome: self.syndrome.lent(),
-            loss: self.loss.lent(),
-        }
-    }
-
-    fn returned(self) {
-        self.ends.returned_unchanged(&self.sheet.board.ends);
-        self.marks.returned_unchanged(&self.sheet.board.marks);
-        self.open.returned_unchanged(&self.sheet.board.open);
-        self.syndrome.returned_unchanged(&self.sheet.syndrome);
-        self.loss.returned_unchanged(&self.sheet.loss);
-    }
-}
+use crate::lent::{BYTE_GUARD, END_GUARD, LentBoard, LentSheet, end_noise, noise};
 
 /// Whether the library refuses as the plain decoder does.
-fn is_refusal(refusal: Refusal, plain: PlainRefusal) -> bool {
+pub(crate) fn is_refusal(refusal: Refusal, plain: PlainRefusal) -> bool {
     (refusal.number(), refusal.place()) == (plain.number, plain.place)
 }
 
@@ -225,21 +169,11 @@ pub fn faces(
 
 /// The distance with a buffer of this length to fill.
 pub fn distance_with(board: &Board, shown: usize) -> Result<Option<usize>, Refusal> {
-    let mut ends = Guarded::new(&board.ends, END_GUARD);
-    let mut marks = Guarded::new(&board.marks, BYTE_GUARD);
-    let mut open = Guarded::new(&board.open, BYTE_GUARD);
+    let mut lent = LentBoard::new(board);
     let before = noise(shown);
     let mut shown_bytes = Guarded::new(&before, BYTE_GUARD);
-    let lent = table::Board {
-        vertices: board.vertices,
-        ends: ends.lent(),
-        marks: marks.lent(),
-        open: open.lent(),
-    };
-    let answer = table::distance(lent, shown_bytes.lent());
-    ends.returned_unchanged(&board.ends);
-    marks.returned_unchanged(&board.marks);
-    open.returned_unchanged(&board.open);
+    let answer = table::distance(lent.lent(), shown_bytes.lent());
+    lent.returned();
     let after = shown_bytes.returned();
     match (answer, distance_into(board, shown)) {
         (Ok(Some(fewest)), Ok(Some(plain))) => {

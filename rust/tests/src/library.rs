@@ -1,6 +1,6 @@
 //! The library's calls on the plain decoder's types, compared with nothing.
 
-use reference::{Board, Key, Refusal, RoundsKey, Sheet};
+use reference::{Board, Key, PackedSheet, Refusal, RoundsKey, Sheet};
 
 fn lent(board: &Board) -> table::Board<'_> {
     let Board { vertices, ends, marks, open } = board;
@@ -20,6 +20,18 @@ pub fn decode(sheet: &Sheet) -> Result<Key, Refusal> {
     let edges = sheet.board.edges();
     let (mut support, mut correction) = (vec![0; edges], vec![0; edges]);
     let answer = table::decode(lent_sheet(sheet), &mut support, &mut correction);
+    let table::Key { growths, edges } = answer.map_err(plain)?;
+    let key = Key { growths, support, correction };
+    assert_eq!(key.edges(), edges, "another count than was written: {sheet:?}");
+    Ok(key)
+}
+
+/// Decoding of a packed sheet, with a key put together from the answer and what was written.
+pub fn decode_packed(sheet: &PackedSheet) -> Result<Key, Refusal> {
+    let PackedSheet { board, syndrome, loss } = sheet;
+    let (mut support, mut correction) = (vec![0; board.edges()], vec![0; board.edges()]);
+    let packed = table::PackedSheet { board: lent(board), syndrome, loss };
+    let answer = table::decode_packed(packed, &mut support, &mut correction);
     let table::Key { growths, edges } = answer.map_err(plain)?;
     let key = Key { growths, support, correction };
     assert_eq!(key.edges(), edges, "another count than was written: {sheet:?}");

@@ -36,6 +36,7 @@ fn in_rust(parameter: &str) -> String {
         "uint8_t" => "u8",
         "uint16_t" => "u16",
         "uint32_t" => "u32",
+        "uint64_t" => "u64",
         other => panic!("{other} is no type of a parameter"),
     };
     match (parameter.contains('*'), parameter.starts_with("const ")) {
@@ -66,25 +67,45 @@ fn slices(parameters: Vec<String>) -> Vec<String> {
     slices
 }
 
+/// Parameters with words in the place of the bytes of syndrome and loss.
+fn in_words(parameters: &[String]) -> Vec<String> {
+    let words = |parameter: &String| match parameter.as_str() {
+        "syndrome: &[u8]" => "syndrome_words: &[u64]".to_string(),
+        "loss: &[u8]" => "loss_words: &[u64]".to_string(),
+        other => other.to_string(),
+    };
+    parameters.iter().map(words).collect()
+}
+
 #[test]
 fn declared_as_exported() {
     let exported = functions(RATTLE, "pub extern \"C\" fn ", in_rattle);
-    assert_eq!(exported.len(), 10);
-    let [decode, rounds] = [&exported[0], &exported[1]];
+    assert_eq!(exported.len(), 15);
+    let [decode, rounds, packed] = [&exported[0], &exported[1], &exported[2]];
     assert_eq!((decode.0.as_str(), decode.1.len()), ("surface_decode", 8));
     assert_eq!((rounds.0.as_str(), &rounds.1), ("surface_decode_rounds", &decode.1));
+    assert_eq!((packed.0.as_str(), &packed.1), ("surface_decode_packed", &in_words(&decode.1)));
     assert_eq!(functions(HEADER, "\nuint64_t ", in_rust), exported, "the header");
     assert_eq!(functions(CRATE, "pub fn ", str::to_string), exported, "the crate");
 }
 
+/// The calls that are lent no board, and what they are lent first.
+const BOARDLESS: [(&str, &str); 5] = [
+    ("surface_faces", "side: u32"),
+    ("surface_pack", "vertices: usize"),
+    ("surface_unpack", "vertices: usize"),
+    ("surface_lit_total", "vertices: usize"),
+    ("surface_list_lit", "vertices: usize"),
+];
+
 /// Open bytes stand right after the marks in every call, filled where the marks are; but the torus and
-/// the stack have no open vertex, so that their builders are lent none, and the verdict with faces is
-/// lent a side in place of a board.
+/// the stack have no open vertex, so that their builders are lent none, and some calls are lent a side
+/// or counts in place of a board.
 #[test]
 fn open_bytes_after_the_marks() {
     for (name, parameters) in functions(HEADER, "\nuint64_t ", in_rust) {
         let Some(marks) = parameters.iter().position(|text| text.starts_with("marks: ")) else {
-            assert_eq!((name.as_str(), parameters[0].as_str()), ("surface_faces", "side: u32"));
+            assert!(BOARDLESS.contains(&(&name, &parameters[0])), "{name}");
             continue;
         };
         let open = parameters.get(marks + 1).map(String::as_str);

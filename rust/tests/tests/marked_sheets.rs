@@ -1,9 +1,10 @@
-//! Document 01's marked sheets in its own numbers, held against the library alone.
+//! Document 01's marked sheets in its own numbers, held against the library alone, plain and packed.
 
 use reference::board::{Board, Sheet, members, together};
 use reference::generators::{path, ring};
 use reference::refusal::{NO_CORRECTION, Refusal};
 use reference::torus::torus;
+use reference::{Key, PackedSheet};
 use table_tests::library;
 
 fn pair() -> Board {
@@ -14,9 +15,16 @@ fn point() -> Board {
     Board::new(1, &[])
 }
 
+/// The library's answer on a sheet, which is the same where the sheet is packed.
+fn decode(sheet: &Sheet) -> Result<Key, Refusal> {
+    let key = library::decode(sheet);
+    assert_eq!(library::decode_packed(&PackedSheet::new(sheet)), key);
+    key
+}
+
 /// The growths, the correction and the full edges of a sheet.
 fn key(board: Board, lit: &[usize], lost: &[usize]) -> (usize, Vec<usize>, Vec<usize>) {
-    let key = library::decode(&Sheet::new(board, lit, lost)).expect("a correction");
+    let key = decode(&Sheet::new(board, lit, lost)).expect("a correction");
     let full = (0..key.support.len()).filter(|&edge| key.support[edge] == 2).collect();
     (key.growths, members(&key.correction).collect(), full)
 }
@@ -29,7 +37,7 @@ fn short_key(board: Board, lit: &[usize], lost: &[usize]) -> (usize, Vec<usize>)
 
 /// The vertex that number 10 shows.
 fn shown(board: Board, lit: &[usize]) -> u64 {
-    let refusal = library::decode(&Sheet::new(board, lit, &[])).expect_err("no correction");
+    let refusal = decode(&Sheet::new(board, lit, &[])).expect_err("no correction");
     let Refusal { number, place } = refusal;
     assert_eq!(number, NO_CORRECTION);
     place
@@ -52,7 +60,7 @@ fn keys() {
 
 #[test]
 fn m3_winds_with_its_error() {
-    let key = library::decode(&Sheet::new(ring(), &[0, 3], &[0, 1, 2, 3])).expect("a correction");
+    let key = decode(&Sheet::new(ring(), &[0, 3], &[0, 1, 2, 3])).expect("a correction");
     assert!(ring().winds(&together(&[0, 0, 0, 1], &key.correction)));
 }
 

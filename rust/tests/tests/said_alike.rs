@@ -8,7 +8,7 @@ const RULES: &str = include_str!("../../../docs/RULES.md");
 const SOURCE: &str = include_str!("../../../crates/model/src/refusal.rt");
 
 /// Every refusal, in the order of the numbers, at place 7 where it has a place. None has number 5.
-const REFUSALS: [Refusal; 17] = [
+const REFUSALS: [Refusal; 18] = [
     Refusal::VertexCount,
     Refusal::EndCount,
     Refusal::BufferLength,
@@ -26,13 +26,14 @@ const REFUSALS: [Refusal; 17] = [
     Refusal::OpenByte(7),
     Refusal::LitOpen(7),
     Refusal::PlanarSide(7),
+    Refusal::PastLast(7),
 ];
 
 /// The number that is not in use.
 const UNUSED: &str = "5";
 
 /// What a place can be.
-const KINDS: [&str; 4] = ["vertex", "edge", "side", "line"];
+const KINDS: [&str; 5] = ["vertex", "edge", "side", "line", "word"];
 
 /// What the header has between `start`, with which a line begins, and the next of `ends`.
 fn between(start: &str, ends: &[char]) -> Option<&'static str> {
@@ -72,7 +73,7 @@ fn place_of(refusal: Refusal) -> &'static str {
 #[test]
 fn numbers_but_5() {
     let numbers: Vec<u8> = REFUSALS.iter().map(|refusal| refusal.number()).collect();
-    assert_eq!(numbers, [1, 2, 3, 4, 6, 7, 8, 9, 10, 11, 12, 13, 14, 15, 16, 17, 18]);
+    assert_eq!(numbers, [1, 2, 3, 4, 6, 7, 8, 9, 10, 11, 12, 13, 14, 15, 16, 17, 18, 19]);
 }
 
 #[test]
@@ -129,10 +130,11 @@ fn number_that_is_not_in_use() {
 }
 
 /// The tests of each call, in order, as the page of rules must list them: 16 and 17 come after 8 and 9
-/// and before 10, 12 and 14, and a side and rounds before the lengths.
-const TESTS: [(&str, &str); 10] = [
+/// and before 10, 12 and 14, 19 in the place of 7 and 8, and a side and rounds before the lengths.
+const TESTS: [(&str, &str); 15] = [
     ("decode", "1 2 3 4 6 7 8 16 17 10"),
     ("decode_rounds", "1 2 3 4 6 7 8 16 17 10"),
+    ("decode_packed", "1 2 3 4 6 19 16 17 10"),
     ("verdict", "1 2 3 4 6 7 8 9 16 17 10"),
     ("faces", "11 3 7 8 9 10"),
     ("distance", "1 2 3 4 6 16"),
@@ -141,6 +143,10 @@ const TESTS: [(&str, &str); 10] = [
     ("stack", "11 15 3 7"),
     ("read", "3 12 13"),
     ("write", "1 2 3 4 6 7 8 16 17 12 14"),
+    ("pack", "1 2 3 7 8"),
+    ("unpack", "1 2 3 19"),
+    ("lit_total", "1 3 19"),
+    ("list_lit", "1 3 19"),
 ];
 
 #[test]

@@ -4,7 +4,8 @@ use std::thread;
 
 use reference::generators::{Kind, opened, sheet};
 use reference::torus::torus;
-use reference::{Random, Sheet};
+use reference::{PackedSheet, Random, Sheet};
+use table_tests::packed::{Listing, Packing, Unpacking, decode_packed, lit_total};
 use table_tests::{agrees, library};
 
 const THREADS: usize = 4;
@@ -31,7 +32,11 @@ fn sheets() -> Vec<Sheet> {
 #[test]
 fn keys_are_those_of_one_thread() {
     let sheets = &sheets();
-    let decode = |sheet: &Sheet| (library::decode(sheet), library::decode_rounds(sheet));
+    let decode = |sheet: &Sheet| {
+        let packed = PackedSheet::new(sheet);
+        let keys = (library::decode(sheet), library::decode_packed(&packed));
+        (keys, library::decode_rounds(sheet))
+    };
     let keys: &Vec<_> = &sheets.iter().map(decode).collect();
     thread::scope(|scope| {
         for first in 0..THREADS {
@@ -100,6 +105,17 @@ fn all_calls_at_once() {
                 let [error, loss] = [0; 2].map(|_| random.set(board.edges(), 50));
                 let answer = agrees::faces(side as u32, &board.syndrome(&error), &loss, &error);
                 assert!(answer.is_ok(), "the error has the syndrome");
+            }
+        });
+        scope.spawn(|| {
+            for sheet in sheets {
+                let Sheet { board, syndrome, loss } = sheet;
+                let words = Packing::new(syndrome, loss).call().expect("words");
+                let bytes = Unpacking::new(board.vertices, board.edges(), &words).call();
+                assert_eq!(bytes, Ok((syndrome.clone(), loss.clone())));
+                let lit = Listing::new(board.vertices, &words.0).call().expect("a list");
+                assert_eq!(lit_total(board.vertices, &words.0), Ok(lit.len()));
+                let _ = decode_packed(&PackedSheet::new(sheet));
             }
         });
     });

@@ -1,7 +1,7 @@
 //! Decoding.
 
 use crate::exported::call;
-use crate::packed::{impossible, unpack};
+use crate::returned::{impossible, values};
 use crate::{Board, Refusal, Sheet};
 
 /// What [`decode`] counts of the key whose bytes it writes.
@@ -68,19 +68,23 @@ pub fn decode(sheet: Sheet<'_>, support: &mut [u8], correction: &mut [u8]) -> Re
     let Sheet { board: Board { vertices, ends, marks, open }, syndrome, loss } = sheet;
     let returned =
         call!(surface_decode(vertices; ends, marks, open, syndrome, loss; support, correction));
-    unpack_key(returned, marks.len())
+    returned_key(returned, marks.len())
 }
 
 /// The key of a board with so many edges that a returned number stands for.
-fn unpack_key(returned: u64, all: usize) -> Result<Key, Refusal> {
-    let (growths, edges) = unpack_steps(returned, all)?;
+fn returned_key(returned: u64, all: usize) -> Result<Key, Refusal> {
+    let (growths, edges) = returned_steps(returned, &[1, 2, 3, 4, 6, 7, 8, 16, 17, 10], all)?;
     Ok(Key { growths, edges })
 }
 
 /// The steps of growth and the correction edges that a returned number stands for, on a board with so
-/// many edges: a decoder makes at most two steps for each edge.
-pub(super) fn unpack_steps(returned: u64, all: usize) -> Result<(usize, usize), Refusal> {
-    match unpack(returned, &[1, 2, 3, 4, 6, 7, 8, 16, 17, 10])? {
+/// many edges, or one of these refusals: a decoder makes at most two steps for each edge.
+pub(super) fn returned_steps(
+    returned: u64,
+    refusals: &[u8],
+    all: usize,
+) -> Result<(usize, usize), Refusal> {
+    match values(returned, refusals)? {
         (steps, edges) if steps <= 2 * all && edges <= all => Ok((steps, edges)),
         _ => impossible(returned),
     }
@@ -88,39 +92,45 @@ pub(super) fn unpack_steps(returned: u64, all: usize) -> Result<(usize, usize), 
 
 #[cfg(test)]
 mod tests {
-    use super::{Key, unpack_key};
+    use super::{Key, returned_key};
     use crate::Refusal;
 
     #[test]
     fn each_answer() {
-        assert_eq!(unpack_key(0, 0), Ok(Key { growths: 0, edges: 0 }));
-        assert_eq!(unpack_key(6 << 8 | 3 << 40, 3), Ok(Key { growths: 6, edges: 3 }));
-        assert_eq!(unpack_key(10 | 5 << 8, 3), Err(Refusal::NoCorrection(5)));
-        assert_eq!(unpack_key(16 | 5 << 8, 3), Err(Refusal::OpenByte(5)));
-        assert_eq!(unpack_key(17 | 5 << 8, 3), Err(Refusal::LitOpen(5)));
+        assert_eq!(returned_key(0, 0), Ok(Key { growths: 0, edges: 0 }));
+        assert_eq!(returned_key(6 << 8 | 3 << 40, 3), Ok(Key { growths: 6, edges: 3 }));
+        assert_eq!(returned_key(10 | 5 << 8, 3), Err(Refusal::NoCorrection(5)));
+        assert_eq!(returned_key(16 | 5 << 8, 3), Err(Refusal::OpenByte(5)));
+        assert_eq!(returned_key(17 | 5 << 8, 3), Err(Refusal::LitOpen(5)));
     }
 
     #[test]
     #[should_panic(expected = "returned 0x700, which this call never answers")]
     fn growth_too_many() {
-        let _ = unpack_key(7 << 8, 3);
+        let _ = returned_key(7 << 8, 3);
     }
 
     #[test]
     #[should_panic(expected = "returned 0x40000000000, which this call never answers")]
     fn edge_too_many() {
-        let _ = unpack_key(4 << 40, 3);
+        let _ = returned_key(4 << 40, 3);
     }
 
     #[test]
     #[should_panic(expected = "returned 0x9, which this call never answers")]
     fn number_of_the_verdict() {
-        let _ = unpack_key(9, 3);
+        let _ = returned_key(9, 3);
     }
 
     #[test]
     #[should_panic(expected = "returned 0x5, which this call never answers")]
     fn number_not_in_use() {
-        let _ = unpack_key(5, 3);
+        let _ = returned_key(5, 3);
+    }
+
+    #[test]
+    #[should_panic(expected = "returned 0x13, which this call never answers")]
+    fn number_of_packed_sheets() {
+        let _ = returned_key(19, 3);
     }
 }

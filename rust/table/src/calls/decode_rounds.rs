@@ -1,6 +1,6 @@
 //! Decoding by growth in rounds.
 
-use super::decode::unpack_steps;
+use super::decode::returned_steps;
 use crate::exported::call;
 use crate::{Board, Refusal, Sheet};
 
@@ -82,50 +82,50 @@ pub fn decode_rounds(
     let returned = call!(
         surface_decode_rounds(vertices; ends, marks, open, syndrome, loss; support, correction)
     );
-    unpack_key(returned, marks.len())
+    returned_key(returned, marks.len())
 }
 
 /// The key of a board with so many edges that a returned number stands for.
-fn unpack_key(returned: u64, all: usize) -> Result<RoundsKey, Refusal> {
-    let (rounds, edges) = unpack_steps(returned, all)?;
+fn returned_key(returned: u64, all: usize) -> Result<RoundsKey, Refusal> {
+    let (rounds, edges) = returned_steps(returned, &[1, 2, 3, 4, 6, 7, 8, 16, 17, 10], all)?;
     Ok(RoundsKey { rounds, edges })
 }
 
 #[cfg(test)]
 mod tests {
-    use super::{RoundsKey, unpack_key};
+    use super::{RoundsKey, returned_key};
     use crate::Refusal;
 
     #[test]
     fn each_answer() {
-        assert_eq!(unpack_key(0, 0), Ok(RoundsKey { rounds: 0, edges: 0 }));
-        assert_eq!(unpack_key(6 << 8 | 3 << 40, 3), Ok(RoundsKey { rounds: 6, edges: 3 }));
-        assert_eq!(unpack_key(10 | 5 << 8, 3), Err(Refusal::NoCorrection(5)));
-        assert_eq!(unpack_key(16 | 5 << 8, 3), Err(Refusal::OpenByte(5)));
-        assert_eq!(unpack_key(17 | 5 << 8, 3), Err(Refusal::LitOpen(5)));
+        assert_eq!(returned_key(0, 0), Ok(RoundsKey { rounds: 0, edges: 0 }));
+        assert_eq!(returned_key(6 << 8 | 3 << 40, 3), Ok(RoundsKey { rounds: 6, edges: 3 }));
+        assert_eq!(returned_key(10 | 5 << 8, 3), Err(Refusal::NoCorrection(5)));
+        assert_eq!(returned_key(16 | 5 << 8, 3), Err(Refusal::OpenByte(5)));
+        assert_eq!(returned_key(17 | 5 << 8, 3), Err(Refusal::LitOpen(5)));
     }
 
     #[test]
     #[should_panic(expected = "returned 0x700, which this call never answers")]
     fn round_too_many() {
-        let _ = unpack_key(7 << 8, 3);
+        let _ = returned_key(7 << 8, 3);
     }
 
     #[test]
     #[should_panic(expected = "returned 0x40000000000, which this call never answers")]
     fn edge_too_many() {
-        let _ = unpack_key(4 << 40, 3);
+        let _ = returned_key(4 << 40, 3);
     }
 
     #[test]
     #[should_panic(expected = "returned 0x9, which this call never answers")]
     fn number_of_the_verdict() {
-        let _ = unpack_key(9, 3);
+        let _ = returned_key(9, 3);
     }
 
     #[test]
     #[should_panic(expected = "returned 0x5, which this call never answers")]
     fn number_not_in_use() {
-        let _ = unpack_key(5, 3);
+        let _ = returned_key(5, 3);
     }
 }

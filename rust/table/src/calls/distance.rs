@@ -1,7 +1,7 @@
 //! The distance.
 
 use crate::exported::call;
-use crate::packed::{impossible, unpack};
+use crate::returned::{impossible, values};
 use crate::{Board, Refusal};
 
 /// Finds the fewest edges of a winding loop and writes one such loop, a byte for each edge; `None`,
@@ -53,13 +53,13 @@ use crate::{Board, Refusal};
 pub fn distance(board: Board<'_>, shown: &mut [u8]) -> Result<Option<usize>, Refusal> {
     let Board { vertices, ends, marks, open } = board;
     let returned = call!(surface_distance(vertices; ends, marks, open; shown));
-    unpack_distance(returned, marks.len())
+    returned_distance(returned, marks.len())
 }
 
 /// The distance of a board with so many edges that a returned number stands for. A winding loop has
 /// an edge at least.
-fn unpack_distance(returned: u64, edges: usize) -> Result<Option<usize>, Refusal> {
-    match unpack(returned, &[1, 2, 3, 4, 6, 16])? {
+fn returned_distance(returned: u64, edges: usize) -> Result<Option<usize>, Refusal> {
+    match values(returned, &[1, 2, 3, 4, 6, 16])? {
         (0, 0) => Ok(None),
         (fewest @ 1.., 1) if fewest <= edges => Ok(Some(fewest)),
         _ => impossible(returned),
@@ -68,44 +68,44 @@ fn unpack_distance(returned: u64, edges: usize) -> Result<Option<usize>, Refusal
 
 #[cfg(test)]
 mod tests {
-    use super::unpack_distance;
+    use super::returned_distance;
     use crate::Refusal;
 
     #[test]
     fn each_answer() {
-        assert_eq!(unpack_distance(0, 0), Ok(None));
-        assert_eq!(unpack_distance(4 << 8 | 1 << 40, 4), Ok(Some(4)));
-        assert_eq!(unpack_distance(6 | 4095 << 8, 4), Err(Refusal::MarkRange(4095)));
-        assert_eq!(unpack_distance(16 | 1023 << 8, 4), Err(Refusal::OpenByte(1023)));
+        assert_eq!(returned_distance(0, 0), Ok(None));
+        assert_eq!(returned_distance(4 << 8 | 1 << 40, 4), Ok(Some(4)));
+        assert_eq!(returned_distance(6 | 4095 << 8, 4), Err(Refusal::MarkRange(4095)));
+        assert_eq!(returned_distance(16 | 1023 << 8, 4), Err(Refusal::OpenByte(1023)));
     }
 
     #[test]
     #[should_panic(expected = "returned 0x10000000000, which this call never answers")]
     fn loop_without_edges() {
-        let _ = unpack_distance(1 << 40, 4);
+        let _ = returned_distance(1 << 40, 4);
     }
 
     #[test]
     #[should_panic(expected = "returned 0x20000000400, which this call never answers")]
     fn neither_some_nor_none() {
-        let _ = unpack_distance(4 << 8 | 2 << 40, 4);
+        let _ = returned_distance(4 << 8 | 2 << 40, 4);
     }
 
     #[test]
     #[should_panic(expected = "returned 0x10000000500, which this call never answers")]
     fn edge_too_many() {
-        let _ = unpack_distance(5 << 8 | 1 << 40, 4);
+        let _ = returned_distance(5 << 8 | 1 << 40, 4);
     }
 
     #[test]
     #[should_panic(expected = "returned 0x11, which this call never answers")]
     fn number_of_a_syndrome() {
-        let _ = unpack_distance(17, 4);
+        let _ = returned_distance(17, 4);
     }
 
     #[test]
     #[should_panic(expected = "returned 0x5, which this call never answers")]
     fn number_not_in_use() {
-        let _ = unpack_distance(5, 4);
+        let _ = returned_distance(5, 4);
     }
 }

@@ -1,7 +1,7 @@
 //! The verdict on a torus, with faces as evidence.
 
 use crate::exported::call;
-use crate::packed::{impossible, unpack};
+use crate::returned::{impossible, values};
 use crate::{Refusal, Verdict};
 
 /// Compares a handed-in set with the correction on the torus of a side, 1 to 32, as
@@ -73,7 +73,7 @@ pub fn faces(
     faces: &mut [u8],
 ) -> Result<Verdict, Refusal> {
     let returned = call!(surface_faces(side; syndrome, loss, handed; faces));
-    unpack_faces(returned, side)
+    returned_faces(returned, side)
 }
 
 /// The vertex count of the torus of a side; number 11 where there is none.
@@ -97,8 +97,8 @@ fn refuses(refusal: Refusal, vertices: usize) -> bool {
 
 /// The verdict on the torus of a side that a returned number stands for. Number 11 is given exactly
 /// where no torus has that side.
-fn unpack_faces(returned: u64, side: u32) -> Result<Verdict, Refusal> {
-    match (unpack(returned, &[3, 7, 8, 9, 10, 11]), vertices_of(side)) {
+fn returned_faces(returned: u64, side: u32) -> Result<Verdict, Refusal> {
+    match (values(returned, &[3, 7, 8, 9, 10, 11]), vertices_of(side)) {
         (Ok(values), Ok(vertices)) => {
             Verdict::new(values, vertices).map_or_else(|| impossible(returned), Ok)
         }
@@ -110,107 +110,107 @@ fn unpack_faces(returned: u64, side: u32) -> Result<Verdict, Refusal> {
 
 #[cfg(test)]
 mod tests {
-    use super::unpack_faces;
+    use super::returned_faces;
     use crate::{Refusal, Verdict};
 
     #[test]
     fn each_answer() {
-        assert_eq!(unpack_faces(1 << 8, 2), Ok(Verdict::Off(0)));
-        assert_eq!(unpack_faces(1 << 8 | 1023 << 40, 32), Ok(Verdict::Off(1023)));
-        assert_eq!(unpack_faces(2 << 8, 1), Ok(Verdict::Same));
-        assert_eq!(unpack_faces(2 << 8, 32), Ok(Verdict::Same));
-        assert_eq!(unpack_faces(3 << 8 | 1 << 40, 1), Ok(Verdict::Wound(1)));
-        assert_eq!(unpack_faces(3 << 8 | 3 << 40, 32), Ok(Verdict::Wound(3)));
+        assert_eq!(returned_faces(1 << 8, 2), Ok(Verdict::Off(0)));
+        assert_eq!(returned_faces(1 << 8 | 1023 << 40, 32), Ok(Verdict::Off(1023)));
+        assert_eq!(returned_faces(2 << 8, 1), Ok(Verdict::Same));
+        assert_eq!(returned_faces(2 << 8, 32), Ok(Verdict::Same));
+        assert_eq!(returned_faces(3 << 8 | 1 << 40, 1), Ok(Verdict::Wound(1)));
+        assert_eq!(returned_faces(3 << 8 | 3 << 40, 32), Ok(Verdict::Wound(3)));
     }
 
     #[test]
     fn each_refusal() {
-        assert_eq!(unpack_faces(11, 0), Err(Refusal::TorusSide(0)));
-        assert_eq!(unpack_faces(11 | 33 << 8, 33), Err(Refusal::TorusSide(33)));
+        assert_eq!(returned_faces(11, 0), Err(Refusal::TorusSide(0)));
+        assert_eq!(returned_faces(11 | 33 << 8, 33), Err(Refusal::TorusSide(33)));
         let largest = u64::from(u32::MAX) << 8;
-        assert_eq!(unpack_faces(11 | largest, u32::MAX), Err(Refusal::TorusSide(u32::MAX)));
-        assert_eq!(unpack_faces(3, 1), Err(Refusal::BufferLength));
-        assert_eq!(unpack_faces(7 | 8 << 8, 3), Err(Refusal::SyndromeByte(8)));
-        assert_eq!(unpack_faces(8 | 17 << 8, 3), Err(Refusal::LossByte(17)));
-        assert_eq!(unpack_faces(9 | 2047 << 8, 32), Err(Refusal::HandedByte(2047)));
-        assert_eq!(unpack_faces(10, 32), Err(Refusal::NoCorrection(0)));
+        assert_eq!(returned_faces(11 | largest, u32::MAX), Err(Refusal::TorusSide(u32::MAX)));
+        assert_eq!(returned_faces(3, 1), Err(Refusal::BufferLength));
+        assert_eq!(returned_faces(7 | 8 << 8, 3), Err(Refusal::SyndromeByte(8)));
+        assert_eq!(returned_faces(8 | 17 << 8, 3), Err(Refusal::LossByte(17)));
+        assert_eq!(returned_faces(9 | 2047 << 8, 32), Err(Refusal::HandedByte(2047)));
+        assert_eq!(returned_faces(10, 32), Err(Refusal::NoCorrection(0)));
     }
 
     #[test]
     #[should_panic(expected = "returned 0x400, which this call never answers")]
     fn fourth_verdict() {
-        let _ = unpack_faces(4 << 8, 3);
+        let _ = returned_faces(4 << 8, 3);
     }
 
     #[test]
     #[should_panic(expected = "returned 0x90000000100, which this call never answers")]
     fn off_outside_the_torus() {
-        let _ = unpack_faces(1 << 8 | 9 << 40, 3);
+        let _ = returned_faces(1 << 8 | 9 << 40, 3);
     }
 
     #[test]
     #[should_panic(expected = "returned 0x200, which this call never answers")]
     fn side_0_judged() {
-        let _ = unpack_faces(2 << 8, 0);
+        let _ = returned_faces(2 << 8, 0);
     }
 
     #[test]
     #[should_panic(expected = "returned 0x30000000300, which this call never answers")]
     fn side_33_judged() {
-        let _ = unpack_faces(3 << 8 | 3 << 40, 33);
+        let _ = returned_faces(3 << 8 | 3 << 40, 33);
     }
 
     #[test]
     #[should_panic(expected = "returned 0x10b, which this call never answers")]
     fn side_1_refused() {
-        let _ = unpack_faces(11 | 1 << 8, 1);
+        let _ = returned_faces(11 | 1 << 8, 1);
     }
 
     #[test]
     #[should_panic(expected = "returned 0x210b, which this call never answers")]
     fn another_side_refused() {
-        let _ = unpack_faces(11 | 33 << 8, 34);
+        let _ = returned_faces(11 | 33 << 8, 34);
     }
 
     #[test]
     #[should_panic(expected = "returned 0x3, which this call never answers")]
     fn length_before_the_side() {
-        let _ = unpack_faces(3, 33);
+        let _ = returned_faces(3, 33);
     }
 
     #[test]
     #[should_panic(expected = "returned 0xa, which this call never answers")]
     fn no_correction_before_the_side() {
-        let _ = unpack_faces(10, 33);
+        let _ = returned_faces(10, 33);
     }
 
     #[test]
     #[should_panic(expected = "returned 0x907, which this call never answers")]
     fn vertex_past_the_last() {
-        let _ = unpack_faces(7 | 9 << 8, 3);
+        let _ = returned_faces(7 | 9 << 8, 3);
     }
 
     #[test]
     #[should_panic(expected = "returned 0x1208, which this call never answers")]
     fn lost_edge_past_the_last() {
-        let _ = unpack_faces(8 | 18 << 8, 3);
+        let _ = returned_faces(8 | 18 << 8, 3);
     }
 
     #[test]
     #[should_panic(expected = "returned 0x1209, which this call never answers")]
     fn handed_edge_past_the_last() {
-        let _ = unpack_faces(9 | 18 << 8, 3);
+        let _ = returned_faces(9 | 18 << 8, 3);
     }
 
     #[test]
     #[should_panic(expected = "returned 0x10a, which this call never answers")]
     fn second_part() {
-        let _ = unpack_faces(10 | 1 << 8, 3);
+        let _ = returned_faces(10 | 1 << 8, 3);
     }
 
     #[test]
     #[should_panic(expected = "returned 0x10, which this call never answers")]
     fn number_of_the_verdict_alone() {
-        let _ = unpack_faces(16, 3);
+        let _ = returned_faces(16, 3);
     }
 }

@@ -2,7 +2,7 @@
 
 use crate::Refusal;
 use crate::exported::call;
-use crate::packed::{impossible, unpack};
+use crate::returned::{impossible, values};
 
 /// Writes the planar board of a side, 2 to 31, and answers with its vertex count.
 ///
@@ -47,14 +47,14 @@ pub fn planar(
     open: &mut [u8],
 ) -> Result<usize, Refusal> {
     let returned = call!(surface_planar(side;; ends, marks, open));
-    unpack_vertices(returned, side)
+    returned_vertices(returned, side)
 }
 
 /// The vertex count of the planar board of a side that a returned number stands for. Number 18 is
 /// given exactly where no planar board has that side.
-fn unpack_vertices(returned: u64, side: u32) -> Result<usize, Refusal> {
+fn returned_vertices(returned: u64, side: u32) -> Result<usize, Refusal> {
     let built = (2..=31).contains(&side);
-    match unpack(returned, &[3, 18]) {
+    match values(returned, &[3, 18]) {
         Ok((vertices, 0)) if built && vertices == (side * (side + 1)) as usize => Ok(vertices),
         Err(Refusal::BufferLength) if built => Err(Refusal::BufferLength),
         Err(Refusal::PlanarSide(refused)) if !built && refused == side => {
@@ -66,60 +66,60 @@ fn unpack_vertices(returned: u64, side: u32) -> Result<usize, Refusal> {
 
 #[cfg(test)]
 mod tests {
-    use super::unpack_vertices;
+    use super::returned_vertices;
     use crate::Refusal;
 
     #[test]
     fn each_answer() {
-        assert_eq!(unpack_vertices(6 << 8, 2), Ok(6));
-        assert_eq!(unpack_vertices(992 << 8, 31), Ok(992));
-        assert_eq!(unpack_vertices(3, 31), Err(Refusal::BufferLength));
-        assert_eq!(unpack_vertices(18, 0), Err(Refusal::PlanarSide(0)));
-        assert_eq!(unpack_vertices(18 | 1 << 8, 1), Err(Refusal::PlanarSide(1)));
-        assert_eq!(unpack_vertices(18 | 32 << 8, 32), Err(Refusal::PlanarSide(32)));
+        assert_eq!(returned_vertices(6 << 8, 2), Ok(6));
+        assert_eq!(returned_vertices(992 << 8, 31), Ok(992));
+        assert_eq!(returned_vertices(3, 31), Err(Refusal::BufferLength));
+        assert_eq!(returned_vertices(18, 0), Err(Refusal::PlanarSide(0)));
+        assert_eq!(returned_vertices(18 | 1 << 8, 1), Err(Refusal::PlanarSide(1)));
+        assert_eq!(returned_vertices(18 | 32 << 8, 32), Err(Refusal::PlanarSide(32)));
         let largest = u64::from(u32::MAX) << 8;
-        assert_eq!(unpack_vertices(18 | largest, u32::MAX), Err(Refusal::PlanarSide(u32::MAX)));
+        assert_eq!(returned_vertices(18 | largest, u32::MAX), Err(Refusal::PlanarSide(u32::MAX)));
     }
 
     #[test]
     #[should_panic(expected = "returned 0x3e000, which this call never answers")]
     fn vertices_of_another_side() {
-        let _ = unpack_vertices(992 << 8, 30);
+        let _ = returned_vertices(992 << 8, 30);
     }
 
     #[test]
     #[should_panic(expected = "returned 0x10000000600, which this call never answers")]
     fn second_value() {
-        let _ = unpack_vertices(6 << 8 | 1 << 40, 2);
+        let _ = returned_vertices(6 << 8 | 1 << 40, 2);
     }
 
     #[test]
     #[should_panic(expected = "returned 0x2012, which this call never answers")]
     fn another_side_refused() {
-        let _ = unpack_vertices(18 | 32 << 8, 33);
+        let _ = returned_vertices(18 | 32 << 8, 33);
     }
 
     #[test]
     #[should_panic(expected = "returned 0x212, which this call never answers")]
     fn side_2_refused() {
-        let _ = unpack_vertices(18 | 2 << 8, 2);
+        let _ = returned_vertices(18 | 2 << 8, 2);
     }
 
     #[test]
     #[should_panic(expected = "returned 0x200, which this call never answers")]
     fn side_1_built() {
-        let _ = unpack_vertices(2 << 8, 1);
+        let _ = returned_vertices(2 << 8, 1);
     }
 
     #[test]
     #[should_panic(expected = "returned 0x3, which this call never answers")]
     fn length_before_the_side() {
-        let _ = unpack_vertices(3, 32);
+        let _ = returned_vertices(3, 32);
     }
 
     #[test]
     #[should_panic(expected = "returned 0x210b, which this call never answers")]
     fn number_of_the_torus() {
-        let _ = unpack_vertices(11 | 33 << 8, 33);
+        let _ = returned_vertices(11 | 33 << 8, 33);
     }
 }

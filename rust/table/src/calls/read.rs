@@ -1,16 +1,17 @@
 //! Reading a text.
 
 use crate::exported::call;
-use crate::packed::{impossible, unpack};
+use crate::returned::{impossible, values};
 use crate::{EDGES, Refusal, VERTICES};
 
-/// The counts of the board that [`read`] found in a text.
+/// The counts of the board that [`read`] found in a text, or of the items that
+/// [`unpack`](crate::unpack) wrote.
 #[derive(Clone, Copy, Debug, PartialEq, Eq)]
 #[must_use]
 pub struct Counts {
-    /// The vertices, and so the open bytes and the syndrome bytes that were written.
+    /// The vertices, and so the syndrome bytes that were written; of a text the open bytes too.
     pub vertices: usize,
-    /// The edges, and so the marks, the loss bytes and half the ends that were written.
+    /// The edges, and so the loss bytes that were written; of a text the marks and half the ends too.
     pub edges: usize,
 }
 
@@ -53,12 +54,12 @@ pub fn read(
     loss: &mut [u8],
 ) -> Result<Counts, Refusal> {
     let returned = call!(surface_read(; text; ends, marks, open, syndrome, loss));
-    unpack_counts(returned)
+    returned_counts(returned)
 }
 
 /// The counts that a returned number stands for.
-fn unpack_counts(returned: u64) -> Result<Counts, Refusal> {
-    match unpack(returned, &[3, 12, 13])? {
+fn returned_counts(returned: u64) -> Result<Counts, Refusal> {
+    match values(returned, &[3, 12, 13])? {
         (vertices @ 1..=VERTICES, edges @ ..=EDGES) => Ok(Counts { vertices, edges }),
         _ => impossible(returned),
     }
@@ -66,26 +67,26 @@ fn unpack_counts(returned: u64) -> Result<Counts, Refusal> {
 
 #[cfg(test)]
 mod tests {
-    use super::{Counts, unpack_counts};
+    use super::{Counts, returned_counts};
     use crate::Refusal;
 
     #[test]
     fn each_answer() {
         let largest = Counts { vertices: 1024, edges: 4096 };
-        assert_eq!(unpack_counts(1024 << 8 | 4096 << 40), Ok(largest));
-        assert_eq!(unpack_counts(1 << 8), Ok(Counts { vertices: 1, edges: 0 }));
-        assert_eq!(unpack_counts(13 | 1 << 8), Err(Refusal::MalformedLine(1)));
+        assert_eq!(returned_counts(1024 << 8 | 4096 << 40), Ok(largest));
+        assert_eq!(returned_counts(1 << 8), Ok(Counts { vertices: 1, edges: 0 }));
+        assert_eq!(returned_counts(13 | 1 << 8), Err(Refusal::MalformedLine(1)));
     }
 
     #[test]
     #[should_panic(expected = "returned 0x0, which this call never answers")]
     fn no_vertices() {
-        let _ = unpack_counts(0);
+        let _ = returned_counts(0);
     }
 
     #[test]
     #[should_panic(expected = "returned 0x10010000000100, which this call never answers")]
     fn edge_too_many() {
-        let _ = unpack_counts(1 << 8 | 4097 << 40);
+        let _ = returned_counts(1 << 8 | 4097 << 40);
     }
 }

@@ -1,7 +1,7 @@
 //! The builder of stacks.
 
 use crate::exported::call;
-use crate::packed::{impossible, unpack};
+use crate::returned::{impossible, values};
 use crate::{Refusal, VERTICES};
 
 /// Writes the stack of a torus that is read in so many rounds, with the syndrome that its readings
@@ -85,7 +85,7 @@ pub fn stack(
     syndrome: &mut [u8],
 ) -> Result<usize, Refusal> {
     let returned = call!(surface_stack(side, rounds; readings; ends, marks, syndrome));
-    unpack_vertices(returned, side, rounds)
+    returned_vertices(returned, side, rounds)
 }
 
 /// The vertex count of the stack of a side and so many rounds; number 11 or 15 where there is none.
@@ -102,8 +102,8 @@ fn stacked(side: u32, rounds: u32) -> Result<usize, Refusal> {
 
 /// The vertex count of the stack of a side and so many rounds that a returned number stands for.
 /// Numbers 11 and 15 are given exactly where there is no such stack.
-fn unpack_vertices(returned: u64, side: u32, rounds: u32) -> Result<usize, Refusal> {
-    match (unpack(returned, &[3, 7, 11, 15]), stacked(side, rounds)) {
+fn returned_vertices(returned: u64, side: u32, rounds: u32) -> Result<usize, Refusal> {
+    match (values(returned, &[3, 7, 11, 15]), stacked(side, rounds)) {
         (Ok((vertices, 0)), Ok(all)) if vertices == all => Ok(vertices),
         (Err(Refusal::BufferLength), Ok(_)) => Err(Refusal::BufferLength),
         (Err(Refusal::SyndromeByte(vertex)), Ok(all)) if vertex < all => {
@@ -116,109 +116,109 @@ fn unpack_vertices(returned: u64, side: u32, rounds: u32) -> Result<usize, Refus
 
 #[cfg(test)]
 mod tests {
-    use super::unpack_vertices;
+    use super::returned_vertices;
     use crate::Refusal;
 
     #[test]
     fn each_answer() {
-        assert_eq!(unpack_vertices(1 << 8, 1, 1), Ok(1));
-        assert_eq!(unpack_vertices(1024 << 8, 1, 1024), Ok(1024));
-        assert_eq!(unpack_vertices(1024 << 8, 32, 1), Ok(1024));
-        assert_eq!(unpack_vertices(75 << 8, 5, 3), Ok(75));
-        assert_eq!(unpack_vertices(3, 32, 1), Err(Refusal::BufferLength));
-        assert_eq!(unpack_vertices(7, 1, 1), Err(Refusal::SyndromeByte(0)));
-        assert_eq!(unpack_vertices(7 | 74 << 8, 5, 3), Err(Refusal::SyndromeByte(74)));
-        assert_eq!(unpack_vertices(7 | 1023 << 8, 16, 4), Err(Refusal::SyndromeByte(1023)));
+        assert_eq!(returned_vertices(1 << 8, 1, 1), Ok(1));
+        assert_eq!(returned_vertices(1024 << 8, 1, 1024), Ok(1024));
+        assert_eq!(returned_vertices(1024 << 8, 32, 1), Ok(1024));
+        assert_eq!(returned_vertices(75 << 8, 5, 3), Ok(75));
+        assert_eq!(returned_vertices(3, 32, 1), Err(Refusal::BufferLength));
+        assert_eq!(returned_vertices(7, 1, 1), Err(Refusal::SyndromeByte(0)));
+        assert_eq!(returned_vertices(7 | 74 << 8, 5, 3), Err(Refusal::SyndromeByte(74)));
+        assert_eq!(returned_vertices(7 | 1023 << 8, 16, 4), Err(Refusal::SyndromeByte(1023)));
     }
 
     /// The rounds are looked at only where the side is in range.
     #[test]
     fn sides_and_rounds_that_are_refused() {
         for rounds in [0, 1, 1024, u32::MAX] {
-            assert_eq!(unpack_vertices(11, 0, rounds), Err(Refusal::TorusSide(0)));
-            assert_eq!(unpack_vertices(11 | 33 << 8, 33, rounds), Err(Refusal::TorusSide(33)));
+            assert_eq!(returned_vertices(11, 0, rounds), Err(Refusal::TorusSide(0)));
+            assert_eq!(returned_vertices(11 | 33 << 8, 33, rounds), Err(Refusal::TorusSide(33)));
             let largest = u64::from(u32::MAX) << 8;
-            let refusal = unpack_vertices(11 | largest, u32::MAX, rounds);
+            let refusal = returned_vertices(11 | largest, u32::MAX, rounds);
             assert_eq!(refusal, Err(Refusal::TorusSide(u32::MAX)));
         }
         for (side, rounds) in [(1, 0), (1, 1025), (5, 41), (32, 0), (32, 2), (32, u32::MAX)] {
-            assert_eq!(unpack_vertices(15, side, rounds), Err(Refusal::RoundCount));
+            assert_eq!(returned_vertices(15, side, rounds), Err(Refusal::RoundCount));
         }
         // So many vertices are a multiple of 2^32.
         for (side, rounds) in [(32, 1 << 22), (16, 1 << 24), (8, 1 << 26), (2, 1 << 30)] {
-            assert_eq!(unpack_vertices(15, side, rounds), Err(Refusal::RoundCount));
+            assert_eq!(returned_vertices(15, side, rounds), Err(Refusal::RoundCount));
         }
     }
 
     #[test]
     #[should_panic(expected = "returned 0x4b00, which this call never answers")]
     fn vertices_of_another_stack() {
-        let _ = unpack_vertices(75 << 8, 5, 4);
+        let _ = returned_vertices(75 << 8, 5, 4);
     }
 
     #[test]
     #[should_panic(expected = "returned 0x10000004b00, which this call never answers")]
     fn second_value() {
-        let _ = unpack_vertices(75 << 8 | 1 << 40, 5, 3);
+        let _ = returned_vertices(75 << 8 | 1 << 40, 5, 3);
     }
 
     #[test]
     #[should_panic(expected = "returned 0x4b07, which this call never answers")]
     fn reading_past_the_last() {
-        let _ = unpack_vertices(7 | 75 << 8, 5, 3);
+        let _ = returned_vertices(7 | 75 << 8, 5, 3);
     }
 
     #[test]
     #[should_panic(expected = "returned 0xf, which this call never answers")]
     fn rounds_in_range_refused() {
-        let _ = unpack_vertices(15, 5, 40);
+        let _ = returned_vertices(15, 5, 40);
     }
 
     #[test]
     #[should_panic(expected = "returned 0x0, which this call never answers")]
     fn no_round_built() {
-        let _ = unpack_vertices(0, 5, 0);
+        let _ = returned_vertices(0, 5, 0);
     }
 
     #[test]
     #[should_panic(expected = "returned 0x40100, which this call never answers")]
     fn round_too_many_built() {
-        let _ = unpack_vertices(1025 << 8, 5, 41);
+        let _ = returned_vertices(1025 << 8, 5, 41);
     }
 
     #[test]
     #[should_panic(expected = "returned 0x10b, which this call never answers")]
     fn side_1_refused() {
-        let _ = unpack_vertices(11 | 1 << 8, 1, 1);
+        let _ = returned_vertices(11 | 1 << 8, 1, 1);
     }
 
     #[test]
     #[should_panic(expected = "returned 0xf, which this call never answers")]
     fn rounds_before_the_side() {
-        let _ = unpack_vertices(15, 33, 0);
+        let _ = returned_vertices(15, 33, 0);
     }
 
     #[test]
     #[should_panic(expected = "returned 0x210b, which this call never answers")]
     fn another_side_refused() {
-        let _ = unpack_vertices(11 | 33 << 8, 34, 1);
+        let _ = returned_vertices(11 | 33 << 8, 34, 1);
     }
 
     #[test]
     #[should_panic(expected = "returned 0x3, which this call never answers")]
     fn length_before_the_rounds() {
-        let _ = unpack_vertices(3, 5, 41);
+        let _ = returned_vertices(3, 5, 41);
     }
 
     #[test]
     #[should_panic(expected = "returned 0x7, which this call never answers")]
     fn reading_before_the_rounds() {
-        let _ = unpack_vertices(7, 5, 0);
+        let _ = returned_vertices(7, 5, 0);
     }
 
     #[test]
     #[should_panic(expected = "returned 0xa, which this call never answers")]
     fn number_of_decoding() {
-        let _ = unpack_vertices(10, 5, 3);
+        let _ = returned_vertices(10, 5, 3);
     }
 }

@@ -2,7 +2,7 @@
 
 use crate::Refusal;
 use crate::exported::call;
-use crate::packed::{impossible, unpack};
+use crate::returned::{impossible, values};
 
 /// Writes the torus of a side, 1 to 32, and answers with its vertex count.
 ///
@@ -38,14 +38,14 @@ use crate::packed::{impossible, unpack};
 #[must_use = "a refusal has written nothing"]
 pub fn torus(side: u32, ends: &mut [u16], marks: &mut [u8]) -> Result<usize, Refusal> {
     let returned = call!(surface_torus(side;; ends, marks));
-    unpack_vertices(returned, side)
+    returned_vertices(returned, side)
 }
 
 /// The vertex count of the torus of a side that a returned number stands for. Number 11 is given
 /// exactly where no torus has that side.
-fn unpack_vertices(returned: u64, side: u32) -> Result<usize, Refusal> {
+fn returned_vertices(returned: u64, side: u32) -> Result<usize, Refusal> {
     let built = (1..=32).contains(&side);
-    match unpack(returned, &[3, 11]) {
+    match values(returned, &[3, 11]) {
         Ok((vertices, 0)) if built && vertices == (side as usize).pow(2) => Ok(vertices),
         Err(Refusal::BufferLength) if built => Err(Refusal::BufferLength),
         Err(Refusal::TorusSide(refused)) if !built && refused == side => {
@@ -57,51 +57,51 @@ fn unpack_vertices(returned: u64, side: u32) -> Result<usize, Refusal> {
 
 #[cfg(test)]
 mod tests {
-    use super::unpack_vertices;
+    use super::returned_vertices;
     use crate::Refusal;
 
     #[test]
     fn each_answer() {
-        assert_eq!(unpack_vertices(1 << 8, 1), Ok(1));
-        assert_eq!(unpack_vertices(1024 << 8, 32), Ok(1024));
-        assert_eq!(unpack_vertices(3, 32), Err(Refusal::BufferLength));
-        assert_eq!(unpack_vertices(11, 0), Err(Refusal::TorusSide(0)));
-        assert_eq!(unpack_vertices(11 | 33 << 8, 33), Err(Refusal::TorusSide(33)));
+        assert_eq!(returned_vertices(1 << 8, 1), Ok(1));
+        assert_eq!(returned_vertices(1024 << 8, 32), Ok(1024));
+        assert_eq!(returned_vertices(3, 32), Err(Refusal::BufferLength));
+        assert_eq!(returned_vertices(11, 0), Err(Refusal::TorusSide(0)));
+        assert_eq!(returned_vertices(11 | 33 << 8, 33), Err(Refusal::TorusSide(33)));
     }
 
     #[test]
     #[should_panic(expected = "returned 0x40000, which this call never answers")]
     fn vertices_of_another_side() {
-        let _ = unpack_vertices(1024 << 8, 31);
+        let _ = returned_vertices(1024 << 8, 31);
     }
 
     #[test]
     #[should_panic(expected = "returned 0x10000000400, which this call never answers")]
     fn second_value() {
-        let _ = unpack_vertices(4 << 8 | 1 << 40, 2);
+        let _ = returned_vertices(4 << 8 | 1 << 40, 2);
     }
 
     #[test]
     #[should_panic(expected = "returned 0x210b, which this call never answers")]
     fn another_side_refused() {
-        let _ = unpack_vertices(11 | 33 << 8, 34);
+        let _ = returned_vertices(11 | 33 << 8, 34);
     }
 
     #[test]
     #[should_panic(expected = "returned 0x10b, which this call never answers")]
     fn side_1_refused() {
-        let _ = unpack_vertices(11 | 1 << 8, 1);
+        let _ = returned_vertices(11 | 1 << 8, 1);
     }
 
     #[test]
     #[should_panic(expected = "returned 0x0, which this call never answers")]
     fn side_0_built() {
-        let _ = unpack_vertices(0, 0);
+        let _ = returned_vertices(0, 0);
     }
 
     #[test]
     #[should_panic(expected = "returned 0x3, which this call never answers")]
     fn length_before_the_side() {
-        let _ = unpack_vertices(3, 33);
+        let _ = returned_vertices(3, 33);
     }
 }

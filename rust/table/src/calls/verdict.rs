@@ -1,7 +1,7 @@
 //! The verdict on a handed-in set.
 
 use crate::exported::call;
-use crate::packed::{impossible, unpack};
+use crate::returned::{impossible, values};
 use crate::{Board, Refusal, Sheet};
 
 /// What [`verdict`] and [`faces`](crate::faces) say of a handed-in set.
@@ -70,51 +70,51 @@ impl Verdict {
 pub fn verdict(sheet: Sheet<'_>, handed: &[u8]) -> Result<Verdict, Refusal> {
     let Sheet { board: Board { vertices, ends, marks, open }, syndrome, loss } = sheet;
     let returned = call!(surface_verdict(vertices; ends, marks, open, syndrome, loss, handed;));
-    unpack_verdict(returned, vertices)
+    returned_verdict(returned, vertices)
 }
 
 /// The verdict on a board with so many vertices that a returned number stands for.
-fn unpack_verdict(returned: u64, vertices: usize) -> Result<Verdict, Refusal> {
-    let values = unpack(returned, &[1, 2, 3, 4, 6, 7, 8, 9, 16, 17, 10])?;
+fn returned_verdict(returned: u64, vertices: usize) -> Result<Verdict, Refusal> {
+    let values = values(returned, &[1, 2, 3, 4, 6, 7, 8, 9, 16, 17, 10])?;
     Verdict::new(values, vertices).map_or_else(|| impossible(returned), Ok)
 }
 
 #[cfg(test)]
 mod tests {
-    use super::{Verdict, unpack_verdict};
+    use super::{Verdict, returned_verdict};
     use crate::Refusal;
 
     #[test]
     fn each_answer() {
-        assert_eq!(unpack_verdict(1 << 8 | 6 << 40, 7), Ok(Verdict::Off(6)));
-        assert_eq!(unpack_verdict(2 << 8, 7), Ok(Verdict::Same));
-        assert_eq!(unpack_verdict(3 << 8 | 3 << 40, 7), Ok(Verdict::Wound(3)));
-        assert_eq!(unpack_verdict(9 | 5 << 8, 7), Err(Refusal::HandedByte(5)));
-        assert_eq!(unpack_verdict(16 | 5 << 8, 7), Err(Refusal::OpenByte(5)));
-        assert_eq!(unpack_verdict(17 | 5 << 8, 7), Err(Refusal::LitOpen(5)));
+        assert_eq!(returned_verdict(1 << 8 | 6 << 40, 7), Ok(Verdict::Off(6)));
+        assert_eq!(returned_verdict(2 << 8, 7), Ok(Verdict::Same));
+        assert_eq!(returned_verdict(3 << 8 | 3 << 40, 7), Ok(Verdict::Wound(3)));
+        assert_eq!(returned_verdict(9 | 5 << 8, 7), Err(Refusal::HandedByte(5)));
+        assert_eq!(returned_verdict(16 | 5 << 8, 7), Err(Refusal::OpenByte(5)));
+        assert_eq!(returned_verdict(17 | 5 << 8, 7), Err(Refusal::LitOpen(5)));
     }
 
     #[test]
     #[should_panic(expected = "returned 0x10000000400, which this call never answers")]
     fn fourth_verdict() {
-        let _ = unpack_verdict(4 << 8 | 1 << 40, 7);
+        let _ = returned_verdict(4 << 8 | 1 << 40, 7);
     }
 
     #[test]
     #[should_panic(expected = "returned 0x300, which this call never answers")]
     fn wound_without_marks() {
-        let _ = unpack_verdict(3 << 8, 7);
+        let _ = returned_verdict(3 << 8, 7);
     }
 
     #[test]
     #[should_panic(expected = "returned 0x70000000100, which this call never answers")]
     fn off_outside_the_board() {
-        let _ = unpack_verdict(1 << 8 | 7 << 40, 7);
+        let _ = returned_verdict(1 << 8 | 7 << 40, 7);
     }
 
     #[test]
     #[should_panic(expected = "returned 0x5, which this call never answers")]
     fn number_not_in_use() {
-        let _ = unpack_verdict(5, 7);
+        let _ = returned_verdict(5, 7);
     }
 }

@@ -1,7 +1,7 @@
 //! Writing a text.
 
 use crate::exported::call;
-use crate::packed::{impossible, unpack};
+use crate::returned::{impossible, values};
 use crate::{Board, Refusal, Sheet};
 
 /// Writes the one text of a sheet to the front of a buffer, touches no byte after it, and answers
@@ -30,12 +30,12 @@ use crate::{Board, Refusal, Sheet};
 pub fn write(sheet: Sheet<'_>, text: &mut [u8]) -> Result<usize, Refusal> {
     let Sheet { board: Board { vertices, ends, marks, open }, syndrome, loss } = sheet;
     let returned = call!(surface_write(vertices; ends, marks, open, syndrome, loss; text));
-    unpack_bytes(returned, text.len())
+    returned_bytes(returned, text.len())
 }
 
 /// The byte count, within a buffer of this length, that a returned number stands for.
-fn unpack_bytes(returned: u64, length: usize) -> Result<usize, Refusal> {
-    match unpack(returned, &[1, 2, 3, 4, 6, 7, 8, 16, 17, 12, 14])? {
+fn returned_bytes(returned: u64, length: usize) -> Result<usize, Refusal> {
+    match values(returned, &[1, 2, 3, 4, 6, 7, 8, 16, 17, 12, 14])? {
         (bytes, 0) if bytes <= length => Ok(bytes),
         _ => impossible(returned),
     }
@@ -43,31 +43,31 @@ fn unpack_bytes(returned: u64, length: usize) -> Result<usize, Refusal> {
 
 #[cfg(test)]
 mod tests {
-    use super::unpack_bytes;
+    use super::returned_bytes;
     use crate::Refusal;
 
     #[test]
     fn each_answer() {
-        assert_eq!(unpack_bytes(24 << 8, 24), Ok(24));
-        assert_eq!(unpack_bytes(14, 23), Err(Refusal::TextBuffer));
-        assert_eq!(unpack_bytes(17 | 5 << 8, 23), Err(Refusal::LitOpen(5)));
+        assert_eq!(returned_bytes(24 << 8, 24), Ok(24));
+        assert_eq!(returned_bytes(14, 23), Err(Refusal::TextBuffer));
+        assert_eq!(returned_bytes(17 | 5 << 8, 23), Err(Refusal::LitOpen(5)));
     }
 
     #[test]
     #[should_panic(expected = "returned 0x1800, which this call never answers")]
     fn text_past_the_buffer() {
-        let _ = unpack_bytes(24 << 8, 23);
+        let _ = returned_bytes(24 << 8, 23);
     }
 
     #[test]
     #[should_panic(expected = "returned 0x10000001800, which this call never answers")]
     fn second_value() {
-        let _ = unpack_bytes(24 << 8 | 1 << 40, 24);
+        let _ = returned_bytes(24 << 8 | 1 << 40, 24);
     }
 
     #[test]
     #[should_panic(expected = "returned 0x5, which this call never answers")]
     fn number_not_in_use() {
-        let _ = unpack_bytes(5, 24);
+        let _ = returned_bytes(5, 24);
     }
 }

@@ -6,7 +6,7 @@ use crate::Refusal;
 ///
 /// Bits 0 to 7 are the refusal's number or 0. Where it isn't 0, bits 8 to 63 are the place;
 /// otherwise bits 8 to 39 are the first value and bits 40 to 63 the second.
-pub(crate) fn unpack(returned: u64, refusals: &[u8]) -> Result<(usize, usize), Refusal> {
+pub(crate) fn values(returned: u64, refusals: &[u8]) -> Result<(usize, usize), Refusal> {
     let number = (returned & 0xff) as u8;
     if number == 0 {
         let (first, second) = ((returned >> 8) as u32, (returned >> 40) as u32);
@@ -27,36 +27,36 @@ pub(crate) fn impossible(returned: u64) -> ! {
 
 #[cfg(test)]
 mod tests {
-    use super::unpack;
+    use super::values;
     use crate::Refusal;
 
     #[test]
     fn fields_stand_where_the_header_says() {
-        assert_eq!(unpack(0, &[]), Ok((0, 0)));
-        assert_eq!(unpack(0xabcd_ef01_2345_6700, &[]), Ok((0x0123_4567, 0xab_cdef)));
-        assert_eq!(unpack(u64::MAX << 8, &[]), Ok((u32::MAX as usize, 0xff_ffff)));
-        assert_eq!(unpack(2047 << 8 | 4, &[3, 4]), Err(Refusal::EndRange(2047)));
+        assert_eq!(values(0, &[]), Ok((0, 0)));
+        assert_eq!(values(0xabcd_ef01_2345_6700, &[]), Ok((0x0123_4567, 0xab_cdef)));
+        assert_eq!(values(u64::MAX << 8, &[]), Ok((u32::MAX as usize, 0xff_ffff)));
+        assert_eq!(values(2047 << 8 | 4, &[3, 4]), Err(Refusal::EndRange(2047)));
         let side = u64::from(u32::MAX) << 8 | 11;
-        assert_eq!(unpack(side, &[11]), Err(Refusal::TorusSide(u32::MAX)));
+        assert_eq!(values(side, &[11]), Err(Refusal::TorusSide(u32::MAX)));
         let side = u64::from(u32::MAX) << 8 | 18;
-        assert_eq!(unpack(side, &[3, 18]), Err(Refusal::PlanarSide(u32::MAX)));
+        assert_eq!(values(side, &[3, 18]), Err(Refusal::PlanarSide(u32::MAX)));
     }
 
     #[test]
     #[should_panic(expected = "returned 0x5, which this call never answers")]
     fn unknown_number() {
-        let _ = unpack(5, &[5]);
+        let _ = values(5, &[5]);
     }
 
     #[test]
     #[should_panic(expected = "returned 0x4, which this call never answers")]
     fn number_of_another_call() {
-        let _ = unpack(4, &[3, 11]);
+        let _ = values(4, &[3, 11]);
     }
 
     #[test]
     #[should_panic(expected = "returned 0x103, which this call never answers")]
     fn place_of_a_placeless_rule() {
-        let _ = unpack(0x103, &[3]);
+        let _ = values(0x103, &[3]);
     }
 }

@@ -1,0 +1,13 @@
+pub mod WordTests
+pub mod Screening
+pub mod BitLaws
+pub mod PastLast
+pub mod RoundTrips
+pub mod BitLists
+pub mod StoringLaws
+pub mod PackedWords
+pub mod LitLaws
+pub mod PackOutcome
+pub mod LitOutcome
+pub mod PackedDecoding
+pub mod EqualKeys

@@ -1,0 +1,5 @@
+pub mod Found
+pub mod Storing
+pub mod Packing
+pub mod Listing
+pub mod Screened
