@@ -81,6 +81,9 @@ module _ (B : Board) (syndrome loss support correction : List ℕ) where
         loss-words = eqb-true _ _ (and-right lit (sized loss (wordCount m)) words);
       }
 
+  pub board-fits : refusalOf (packedBoardRules B syndrome loss support correction) ≡ none → Fitting B syndrome loss
+  board-fits p = counts-fit (neither-fails (refusalOf packedCounts) _ (sym (board-tests B others) ∙ p) .0)
+
   -- Words that are right, whatever else is broken
 
   -- decoding's own tests up to 8 are those of the board
@@ -117,9 +120,16 @@ module _ (B : Board) (syndrome loss support correction : List ℕ) where
   as-decoding-refusal p =
       let tests = before-open-tests B syndrome loss support correction in
       let t = neither-fails (refusalOf (packedBoardRules B syndrome loss support correction)) _ (sym tests ∙ p) in
-      let fit = counts-fit (neither-fails (refusalOf packedCounts) _ (sym (board-tests B others) ∙ t .0) .0) in
+      let fit = board-fits (t .0) in
       let w = both-say (B .vertices) m syndrome loss (fit .syndrome-words, fit .loss-words) (t .1) in
       as-unpacked (w .0) (w .1)
+
+  -- so where nothing is refused, decoding refuses nothing of the unpacked bytes
+  pub packed-passes : decodePackedRefusal B syndrome loss support correction ≡ none → decodeRefusal X support correction ≡ none
+  packed-passes p =
+      let tests = packed-tests B syndrome loss support correction in
+      let t = neither-fails (refusalOf (packedRules B syndrome loss support correction)) _ (sym tests ∙ p) in
+      sym (as-decoding-refusal (t .0)) ∙ p
 
   -- What the look before decoding answers
 

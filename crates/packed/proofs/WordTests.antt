@@ -12,8 +12,8 @@ use Rattle.model.specs.declared.refusal.Refusal.the-variants.{VertexCount, EndC
 use Rattle.model.specs.Sums.{orElse}
 use Rattle.model.specs.Board.{Board, ValidBytes, vertexLimit, edgeLimit}
 use Rattle.model.specs.Words.{wordCount, pastLast}
-use Rattle.model.specs.Refusals.{tested, refusalOf, sized, edgesOf, byteRules, openRules, lengthRule}
-use Rattle.model.specs.WordRefusals.{wordRule, wordRules, wordsSized, itemRules, packRefusal, unpackRefusal, litRules, litRefusal, packedBoardRules, packedRules, decodePackedRefusal}
+use Rattle.model.specs.Refusals.{Rule, tested, refusalOf, sized, edgesOf, vertexCountRule, lengthRule, byteRules, openRules}
+use Rattle.model.specs.WordRefusals.{wordRule, wordRules, wordsSized, itemRules, packRefusal, unpackRefusal, litRefusal, packedBoardRules, packedRules, decodePackedRefusal}
 use Rattle.model.specs.WordOutcomes.{sheetIn}
 use Rattle.model.specs.Precedence.{here}
 use Rattle.model.proofs.Xor.{and-left, and-right, not-true-false}
@@ -164,7 +164,14 @@ module _ (n m : ℕ) (syndrome loss syndromeWords lossWords : List ℕ) where
       → unpackRefusal n m syndromeWords lossWords syndrome loss ≡ none
   passes-unpack k = unpack-tests ∙ rw (say-items (k .items)) (say-both (k .syndrome-within) (k .loss-within))
 
--- The lit total and the list of lit vertices: 1, 3 and 19 of one sheet.
+-- The lit total and the list of lit vertices: 1 and 3, which say that the count is in range and that words and list have their lengths ..
+pub record LitCounted (n : ℕ) (words : List ℕ) (others : Bool) : Type 0 where
+  pub some-vertex : 1 ≤ n
+  pub vertex-limit : n ≤ vertexLimit
+  pub words-long : length words ≡ wordCount n
+  pub fit : others ≡ true
+
+-- .. and 19
 pub record ForLit (n : ℕ) (words : List ℕ) (others : Bool) : Type 0 where
   pub some-vertex : 1 ≤ n
   pub vertex-limit : n ≤ vertexLimit
@@ -172,28 +179,45 @@ pub record ForLit (n : ℕ) (words : List ℕ) (others : Bool) : Type 0 where
   pub fit : others ≡ true
 
 module _ (n : ℕ) (words : List ℕ) (others : Bool) where
+  abbrev pub litCounts : List Rule
+  litCounts = vertexCountRule n ∷ lengthRule (sized words (wordCount n) && others) ∷ []
+
+  pub lit-tests : litRefusal n words others ≡ orElse (refusalOf litCounts) (refusalOf (wordRule n words ∷ []))
+  unfolding litRefusal
+  lit-tests = refusal-append litCounts (wordRule n words ∷ [])
+
   -- once the count is in range the lengths decide, and then 19; i is the count of words
   pub lit-lengths : (i : ℕ) (fit : Bool) → 1 ≤ n → n ≤ vertexLimit → i ≡ wordCount n → (sized words i && others) ≡ fit
       → litRefusal n words others ≡ refusalOf (lengthRule fit ∷ wordRule n words ∷ [])
   unfolding litRefusal
   lit-lengths i fit some-vertex few p e = rw (le-leb _ _ some-vertex, le-leb _ _ few, ← p, e)
 
-  -- .. which has a word for each
+  -- .. which is held to the words
   pub lit-words : (i : ℕ) → i ≡ wordCount n → (sized words i && others) ≡ true → length words ≡ wordCount n
   lit-words i p e = eqb-true _ _ (and-left (sized words i) others e) ∙ p
 
-pub lit-passes : (n : ℕ) (words : List ℕ) (others : Bool) → litRefusal n words others ≡ none → ForLit n words others
-unfolding litRefusal
-lit-passes n words others p =
-    let e = each-passes (litRules n words others) p in
-    let one = unless-passes (leb 1 n && leb n vertexLimit) VertexCount (e .0) in
-    let fit = unless-passes (sized words (wordCount n) && others) BufferLength (e .1 .0) in
-    record {
-      some-vertex = leb-true _ _ (and-left (leb 1 n) _ one);
-      vertex-limit = leb-true _ _ (and-right (leb 1 n) _ one);
-      within = words-say n words (eqb-true _ _ (and-left (sized words (wordCount n)) others fit)) (e .1 .1 .0);
-      fit = and-right (sized words (wordCount n)) others fit;
-    }
+  pub lit-counts-say : refusalOf litCounts ≡ none → LitCounted n words others
+  lit-counts-say p =
+      let e = each-passes litCounts p in
+      let one = unless-passes (leb 1 n && leb n vertexLimit) VertexCount (e .0) in
+      let fit = unless-passes (sized words (wordCount n) && others) BufferLength (e .1 .0) in
+      record {
+        some-vertex = leb-true _ _ (and-left (leb 1 n) _ one);
+        vertex-limit = leb-true _ _ (and-right (leb 1 n) _ one);
+        words-long = lit-words (wordCount n) refl fit;
+        fit = and-right (sized words (wordCount n)) others fit;
+      }
+
+  pub lit-passes : litRefusal n words others ≡ none → ForLit n words others
+  lit-passes p =
+      let t = neither-fails (refusalOf litCounts) _ (sym lit-tests ∙ p) in
+      let k = lit-counts-say (t .0) in
+      record {
+        some-vertex = k .some-vertex;
+        vertex-limit = k .vertex-limit;
+        within = words-say n words (k .words-long) (each-passes (wordRule n words ∷ []) (t .1) .0);
+        fit = k .fit;
+      }
 
 -- Decoding of a packed sheet: 1 to 4 and 6 of the board, then 19, and then 16 and 17
 module _ (B : Board) (syndrome loss support correction : List ℕ) where

@@ -46,11 +46,11 @@ pub(crate) fn list_bits(words: &[u64], list: &mut [u16]) -> usize
     requires { ⌜ (64 * length (now words) ≤ vertexLimit) × (litTotal (now words) ≤ length (now list)) ⌝ }
     ensures { λ r. ⌜ Stored (itemsIn (length (before words)) (before words)) (before list) 0 (after list) r ⌝ }
 {
-    let mut total = 0;
+    let mut listed = 0;
     let mut w = 0;
     while w < words.len() {
-        total = list_word(words[w], WORD * w, list, total);
+        listed = list_word(words[w], WORD * w, list, listed);
         w += 1;
     }
-    total
+    listed
 }

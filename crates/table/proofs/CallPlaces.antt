@@ -7,7 +7,7 @@ use mathlib.Core.List.{List, [], _∷_}
 use native.Mathlib.Omega.{arith}
 use lib.ListN.{length}
 use lib.Dec.{eqb, leb}
-use Rattle.model.specs.declared.refusal.Refusal.the-variants.{VertexCount, EndCount, BufferLength, EndRange, MarkRange, SyndromeByte, LossByte, HandedByte, TorusSide, TextLength, TextBuffer, RoundCount, OpenByte, LitOpen, PlanarSide}
+use Rattle.model.specs.declared.refusal.Refusal.the-variants.{VertexCount, EndCount, BufferLength, EndRange, MarkRange, SyndromeByte, LossByte, HandedByte, TorusSide, TextLength, TextBuffer, RoundCount, OpenByte, LitOpen, PlanarSide, PastLast}
 use Rattle.model.specs.Sums.{ones}
 use Rattle.model.specs.Board.{Board, Sheet, edges, vertexLimit, edgeLimit}
 use Rattle.model.specs.Decoding.{smallestOdd}
@@ -17,16 +17,21 @@ use Rattle.model.specs.Planar.{leastPlanar, largestPlanar, planarVertices, plan
 use Rattle.model.specs.Stack.{stackVertices}
 use Rattle.model.specs.Text.{textOf}
 use Rattle.model.specs.TextOutcomes.{Buffers, textLimit, textRule, readRefusal, writeRefusal}
+use Rattle.model.specs.Words.{wordCount, pastLast, unpackedSheet}
+use Rattle.model.specs.WordRefusals.{wordRule, wordRules, wordsSized, itemRules, packRefusal, unpackRefusal, litRefusal, decodePackedRefusal}
+use Rattle.model.specs.WordOutcomes.{sheetIn}
 use Rattle.model.proofs.Places.{PlaceBelow, EachBelow, wider, unless-below, at-below, first-below, else-below, rules-below}
 use Rattle.model.proofs.RuleLists.{unless-passes, refusal-append}
 use Rattle.theory.proofs.SmallestOdd.{smallest-odd-exactly}
 use Rattle.board.proofs.Validity.{board-tests, counts-allow, plain-tests, board-allows, sheet-tests, plain-passes, plain-allows}
 use Rattle.board.proofs.Calls.{verdict-tests, handed-allowed, distance-tests, open-allowed}
-use Rattle.board.proofs.Failures.{each-passes}
+use Rattle.board.proofs.Failures.{neither-fails, each-passes}
 use Rattle.stack.proofs.LayerTests.{passed-layers}
 use Rattle.stack.proofs.StackTests.{stack-tests, readings-long}
 use Rattle.torus.proofs.SideRefused.{passed-within}
 use Rattle.faces.proofs.FaceTests.{bytes-allowed, handed-allowed as handed-few}
+use Rattle.packed.proofs.WordTests.{items-say, items-allow, pack-tests, unpack-tests, litCounts, lit-tests, lit-counts-say, before-open-tests, packed-tests}
+use Rattle.packed.proofs.Screening.{board-fits}
 use Rattle.text.proofs.ReadOutcome.{fit}
 use Rattle.text.proofs.WriteOutcome.{textRules, write-tests}
 
@@ -209,3 +214,62 @@ write-small X buffer =
       unless-below (leb (length (textOf X)) textLimit) TextLength (omega arith),
       (unless-below (leb (length (textOf X)) (length buffer)) TextBuffer (omega arith), tt),
     )))
+
+-- of packed sheets; a word is one of few, once the lengths have passed
+word-small : (n : ℕ) (words : List ℕ) → length words ≤ edgeLimit → Small (tested (wordRule n words))
+unfolding wordRule
+word-small n words h = first-below (length words) (pastLast n words) (λ w. PastLast (record { 0 = w })) (λ w l. omega arith)
+
+words-small : (n m : ℕ) (syndrome loss : List ℕ) → length syndrome ≤ edgeLimit → length loss ≤ edgeLimit
+    → Small (refusalOf (wordRules n syndrome m loss))
+unfolding wordRules
+words-small n m syndrome loss h k =
+    rules-below (wordRules n syndrome m loss) (word-small n syndrome h, (word-small m loss k, tt))
+
+items-small : (n m : ℕ) (syndrome loss syndromeWords lossWords : List ℕ)
+    → Small (refusalOf (itemRules n m syndrome loss syndromeWords lossWords))
+items-small n m syndrome loss syndromeWords lossWords =
+    let fits = (sized syndrome n && sized loss m) && wordsSized n m syndromeWords lossWords in
+    rules-below (itemRules n m syndrome loss syndromeWords lossWords) (
+      unless-below (leb 1 n && leb n vertexLimit) VertexCount (omega arith),
+      (unless-below (leb m edgeLimit) EndCount (omega arith), (unless-below fits BufferLength (omega arith), tt)),
+    )
+
+pub pack-small : (n m : ℕ) (syndrome loss syndromeWords lossWords : List ℕ) → Small (packRefusal n m syndrome loss syndromeWords lossWords)
+pack-small n m syndrome loss syndromeWords lossWords =
+    rw (pack-tests n m syndrome loss syndromeWords lossWords)
+    (else-below _ _ (items-small n m syndrome loss syndromeWords lossWords) (λ p.
+    bytes-small syndrome loss (items-allow n m syndrome loss syndromeWords lossWords p)))
+
+pub unpack-small : (n m : ℕ) (syndromeWords lossWords syndrome loss : List ℕ)
+    → Small (unpackRefusal n m syndromeWords lossWords syndrome loss)
+unpack-small n m syndromeWords lossWords syndrome loss =
+    rw (unpack-tests n m syndrome loss syndromeWords lossWords)
+    (else-below _ _ (items-small n m syndrome loss syndromeWords lossWords) (λ p.
+    let k = items-say n m syndrome loss syndromeWords lossWords p in
+    words-small n m syndromeWords lossWords (omega arith) (omega arith)))
+
+pub lit-small : (n : ℕ) (words : List ℕ) (others : Bool) → Small (litRefusal n words others)
+lit-small n words others =
+    let fits = sized words (wordCount n) && others in
+    rw (lit-tests n words others)
+    (else-below _ _
+    (rules-below (litCounts n words others) (
+      unless-below (leb 1 n && leb n vertexLimit) VertexCount (omega arith),
+      (unless-below fits BufferLength (omega arith), tt),
+    ))
+    (λ p.
+    let k = lit-counts-say n words others p in
+    rules-below (wordRule n words ∷ []) (word-small n words (omega arith), tt)))
+
+pub decode-packed-small : (B : Board) (syndrome loss support correction : List ℕ)
+    → Small (decodePackedRefusal B syndrome loss support correction)
+unfolding unpackedSheet
+decode-packed-small B syndrome loss support correction =
+    let X = sheetIn B syndrome loss in
+    rw (packed-tests B syndrome loss support correction, before-open-tests B syndrome loss support correction)
+    (else-below _ _
+    (else-below _ _ (board-small B _) (λ p.
+    let k = board-fits B syndrome loss support correction p in
+    words-small (B .vertices) (edgesOf (B .ends)) syndrome loss (omega arith) (omega arith)))
+    (λ p. rules-below (openRules X) (open-small X (open-allowed B _ (neither-fails _ _ p .0)))))

@@ -10,6 +10,8 @@ use Rattle.model.specs.declared.answers.Distance.{Distance}
 use Rattle.model.specs.declared.answers.Built.{Built}
 use Rattle.model.specs.declared.answers.Reading.{Reading}
 use Rattle.model.specs.declared.answers.Written.{Written}
+use Rattle.model.specs.declared.answers.Packed.{Packed}
+use Rattle.model.specs.declared.answers.Lit.{Lit}
 use Rattle.model.specs.Board.{Board, Sheet}
 use Rattle.model.specs.Outcomes.{decodeAnswer, Decodes, DecodesSoundly, verdictAnswer, Judges, JudgesSoundly}
 use Rattle.model.specs.Outcomes.{distanceAnswer, Measures, torusAnswer, Builds, planarAnswer, BuildsPlanar}
@@ -17,9 +19,12 @@ use Rattle.model.specs.FacesOutcomes.{facesAnswer, ShowsFaces, FacesSoundly}
 use Rattle.model.specs.StackOutcomes.{stackAnswer, BuildsStack, StacksSoundly}
 use Rattle.model.specs.RoundsOutcomes.{roundsAnswer, DecodesInRounds, RoundsSoundly}
 use Rattle.model.specs.TextOutcomes.{Buffers, counts, readOutcome, Reads, writeAnswer, Writes}
+use Rattle.model.specs.WordOutcomes.{decodePackedAnswer, DecodesPacked, DecodesPackedSoundly, packAnswer, Packs, PacksSoundly}
+use Rattle.model.specs.WordOutcomes.{unpackAnswer, Unpacks, UnpacksSoundly, litAnswer, Totals, TotalsSoundly, listAnswer, Lists}
 use Rattle.model.specs.Packing.{packedDecoded, packedRounds, packedVerdict, packedDistance, packedBuilt, packedReading, packedWritten}
 use Rattle.model.specs.Packing.{unpackedDecoded, unpackedRounds, unpackedVerdict, unpackedDistance, unpackedBuilt, unpackedReading, unpackedWritten}
-use Rattle.table.proofs.Returned.{decode-returned, rounds-returned, verdict-returned, distance-returned, torus-returned, planar-returned, stack-returned, faces-returned, read-returned, write-returned}
+use Rattle.model.specs.Packing.{packedWords, packedLit, unpackedWords, unpackedLit}
+use Rattle.table.proofs.Returned.{decode-returned, rounds-returned, verdict-returned, distance-returned, torus-returned, planar-returned, stack-returned, faces-returned, read-returned, write-returned, pack-returned, unpack-returned, lit-returned, list-returned, decode-packed-returned}
 
 exported : {A : Type 0} (pack : A → ℕ) (unpack : ℕ → A) (P : A → Type 0) {a b : A} {r : ℕ} → unpack (pack b) ≡ b → a ≡ b → r ≡ pack a → P a
     → (r ≡ pack b) × P (unpack r)
@@ -42,6 +47,17 @@ pub rounds-exported : {X : Sheet} {support correction : List ℕ} {a : RoundsDec
 rounds-exported {X} {support} {correction} {a} {s} {k} p w =
     exported packedRounds unpackedRounds (λ d. DecodesInRounds X support correction d s k × RoundsSoundly X support correction d s k)
     (rounds-returned X support correction) (w .0 .result) p w
+
+pub decode-packed-exported : {B : Board} {syndrome loss support correction : List ℕ} {a : Decoded} {s k : List ℕ} {r : ℕ}
+    → r ≡ packedDecoded a
+    → DecodesPacked B syndrome loss support correction a s k × DecodesPackedSoundly B syndrome loss support correction a s k
+    → (r ≡ packedDecoded (decodePackedAnswer B syndrome loss support correction))
+    × (DecodesPacked B syndrome loss support correction (unpackedDecoded r) s k
+    × DecodesPackedSoundly B syndrome loss support correction (unpackedDecoded r) s k)
+decode-packed-exported {B} {syndrome} {loss} {support} {correction} {a} {s} {k} p w =
+    exported packedDecoded unpackedDecoded
+    (λ d. DecodesPacked B syndrome loss support correction d s k × DecodesPackedSoundly B syndrome loss support correction d s k)
+    (decode-packed-returned B syndrome loss support correction) (w .0 .result) p w
 
 pub verdict-exported : {X : Sheet} {handed : List ℕ} {a : Verdict} {r : ℕ} → r ≡ packedVerdict a → Judges X handed a × JudgesSoundly X handed a
     → (r ≡ packedVerdict (verdictAnswer X handed)) × (Judges X handed (unpackedVerdict r) × JudgesSoundly X handed (unpackedVerdict r))
@@ -92,3 +108,30 @@ pub write-exported : {X : Sheet} {buffer : List ℕ} {a : Written} {t : List ℕ
     → (r ≡ packedWritten (writeAnswer X buffer)) × Writes X buffer (unpackedWritten r) t
 write-exported {X} {buffer} {a} {t} p w =
     exported packedWritten unpackedWritten (λ x. Writes X buffer x t) (write-returned X buffer) (w .result) p w
+
+pub pack-exported : {n m : ℕ} {syndrome loss lit lost : List ℕ} {a : Packed} {i j : List ℕ} {r : ℕ} → r ≡ packedWords a
+    → Packs n m syndrome loss lit lost a i j × PacksSoundly n m syndrome loss a i j
+    → (r ≡ packedWords (packAnswer n m syndrome loss lit lost))
+    × (Packs n m syndrome loss lit lost (unpackedWords r) i j × PacksSoundly n m syndrome loss (unpackedWords r) i j)
+pack-exported {n} {m} {syndrome} {loss} {lit} {lost} {a} {i} {j} p w =
+    exported packedWords unpackedWords (λ x. Packs n m syndrome loss lit lost x i j × PacksSoundly n m syndrome loss x i j)
+    (pack-returned n m syndrome loss lit lost) (w .0 .result) p w
+
+pub unpack-exported : {n m : ℕ} {lit lost syndrome loss : List ℕ} {a : Reading} {s l : List ℕ} {r : ℕ} → r ≡ packedReading a
+    → Unpacks n m lit lost syndrome loss a s l × UnpacksSoundly n m lit lost a s l
+    → (r ≡ packedReading (unpackAnswer n m lit lost syndrome loss))
+    × (Unpacks n m lit lost syndrome loss (unpackedReading r) s l × UnpacksSoundly n m lit lost (unpackedReading r) s l)
+unpack-exported {n} {m} {lit} {lost} {syndrome} {loss} {a} {s} {l} p w =
+    exported packedReading unpackedReading (λ x. Unpacks n m lit lost syndrome loss x s l × UnpacksSoundly n m lit lost x s l)
+    (unpack-returned n m lit lost syndrome loss) (w .0 .result) p w
+
+pub lit-exported : {n : ℕ} {words : List ℕ} {a : Lit} {r : ℕ} → r ≡ packedLit a → Totals n words a × TotalsSoundly n words a
+    → (r ≡ packedLit (litAnswer n words)) × (Totals n words (unpackedLit r) × TotalsSoundly n words (unpackedLit r))
+lit-exported {n} {words} p w =
+    exported packedLit unpackedLit (λ x. Totals n words x × TotalsSoundly n words x) (lit-returned n words) (w .0 .result) p w
+
+pub list-exported : {n : ℕ} {words list : List ℕ} {a : Lit} {l : List ℕ} {r : ℕ} → r ≡ packedLit a
+    → Lists n words list a l × TotalsSoundly n words a
+    → (r ≡ packedLit (listAnswer n words list)) × (Lists n words list (unpackedLit r) l × TotalsSoundly n words (unpackedLit r))
+list-exported {n} {words} {list} {a} {l} p w =
+    exported packedLit unpackedLit (λ x. Lists n words list x l × TotalsSoundly n words x) (list-returned n words list) (w .0 .result) p w

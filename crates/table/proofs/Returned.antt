@@ -17,6 +17,8 @@ use Rattle.model.specs.declared.answers.Distance.the-variants as distance
 use Rattle.model.specs.declared.answers.Built.the-variants as built
 use Rattle.model.specs.declared.answers.Reading.the-variants as reading
 use Rattle.model.specs.declared.answers.Written.the-variants as written
+use Rattle.model.specs.declared.answers.Packed.the-variants as words
+use Rattle.model.specs.declared.answers.Lit.the-variants as lit
 use Rattle.model.specs.Sums.{Set, ones}
 use Rattle.model.specs.Board.{Board, Sheet, Valid, edges}
 use Rattle.model.specs.Winding.{crossings, together, size}
@@ -35,7 +37,11 @@ use Rattle.model.specs.StackOutcomes.{stackAnswer}
 use Rattle.model.specs.FacesOutcomes.{torusSheet, facesAnswer}
 use Rattle.model.specs.Text.{Read, complete, refused, textOf, readText}
 use Rattle.model.specs.TextOutcomes.{Buffers, textLimit, readRefusal, readOutcome, counts, writeRefusal, writeAnswer}
-use Rattle.model.specs.Packing.{packedDecoded, packedRounds, packedVerdict, packedDistance, packedBuilt, packedReading, packedWritten, unpackedDecoded, unpackedRounds, verdictWith, unpackedVerdict, distanceWith, unpackedDistance, unpackedBuilt, unpackedReading, unpackedWritten}
+use Rattle.model.specs.Words.{inWords, wordCount, litTotal}
+use Rattle.model.specs.WordRefusals.{packRefusal, unpackRefusal, litRefusal, decodePackedRefusal}
+use Rattle.model.specs.WordOutcomes.{packAnswer, unpackAnswer, litAnswer, listAnswer, sheetIn, decodePackedAnswer}
+use Rattle.model.specs.Packing.{packedDecoded, packedRounds, packedVerdict, packedDistance, packedBuilt, packedReading, packedWritten, packedWords, packedLit, unpackedDecoded, unpackedRounds, verdictWith, unpackedVerdict, distanceWith, unpackedDistance, unpackedBuilt, unpackedReading, unpackedWritten, unpackedWords, unpackedLit}
+use Rattle.model.proofs.SumLaws.{count-bound}
 use Rattle.model.proofs.Packing.{unpacked-values, unpacked-refusal}
 use Rattle.model.proofs.Places.{PlaceBelow, answer-holds}
 use Rattle.theory.proofs.AnswerBounds.{count-limit, size-bound, differs-bound, crossings-bound, fewest-bound}
@@ -51,7 +57,9 @@ use Rattle.planar.proofs.Numbering.{vertices-limit}
 use Rattle.stack.proofs.StackPasses.{stack-passes}
 use Rattle.torus.proofs.TorusValid.{torus-valid}
 use Rattle.faces.proofs.FaceTests.{faces-passes}
-use Rattle.table.proofs.CallPlaces.{roomy, decode-small, verdict-small, odd-small, distance-small, torus-side, planar-side, stack-side, faces-side, read-small, write-small}
+use Rattle.packed.proofs.WordTests.{pack-passes, unpack-passes, lit-passes}
+use Rattle.packed.proofs.Screening.{packed-passes}
+use Rattle.table.proofs.CallPlaces.{roomy, decode-small, verdict-small, odd-small, distance-small, torus-side, planar-side, stack-side, faces-side, read-small, write-small, pack-small, unpack-small, lit-small, decode-packed-small}
 
 -- An answer comes back where the refusals of its test and what follows where it passes do.
 back : {A : Type 0} (pack : A → ℕ) (unpack : ℕ → A) {refused : Refusal → A} {else : A} (t : Test)
@@ -75,14 +83,28 @@ decode-key X v =
     (omega (arith, count-limit weighted X, v .inside .edge-limit))
     (omega (arith, size-bound (X .board) (corrected X), v .inside .edge-limit))
 
+key-returned : (X : Sheet) → Valid (X .board) → unpackedDecoded (packedDecoded (keyOrNone X)) ≡ keyOrNone X
+unfolding keyOrNone
+key-returned X v =
+    back packedDecoded unpackedDecoded (oddPartTest X) decode-refusal (roomy (odd-small X (v .inside .vertex-limit))) (λ q. decode-key X v)
+
 pub decode-returned : (X : Sheet) (support correction : List ℕ) →
     unpackedDecoded (packedDecoded (decodeAnswer X support correction)) ≡ decodeAnswer X support correction
-unfolding decodeAnswer keyOrNone
+unfolding decodeAnswer
 decode-returned X support correction =
     back packedDecoded unpackedDecoded (decodeRefusal X support correction) decode-refusal (roomy (decode-small X support correction))
-    (λ p.
-    let v = decode-passes X support correction p .sheet .board in
-    back packedDecoded unpackedDecoded (oddPartTest X) decode-refusal (roomy (odd-small X (v .inside .vertex-limit))) (λ q. decode-key X v))
+    (λ p. key-returned X (decode-passes X support correction p .sheet .board))
+
+-- of a packed sheet the same
+pub decode-packed-returned : (B : Board) (syndrome loss support correction : List ℕ)
+    → unpackedDecoded (packedDecoded (decodePackedAnswer B syndrome loss support correction))
+    ≡ decodePackedAnswer B syndrome loss support correction
+unfolding decodePackedAnswer
+decode-packed-returned B syndrome loss support correction =
+    let X = sheetIn B syndrome loss in
+    back packedDecoded unpackedDecoded (decodePackedRefusal B syndrome loss support correction) decode-refusal
+    (roomy (decode-packed-small B syndrome loss support correction))
+    (λ p. key-returned X (decode-passes X support correction (packed-passes B syndrome loss support correction p) .sheet .board))
 
 -- Decoding in rounds: rounds in the place of growths
 
@@ -274,3 +296,73 @@ unfolding writeAnswer
 write-returned X buffer =
     back packedWritten unpackedWritten (writeRefusal X buffer) write-refusal (roomy (write-small X buffer))
     (λ p. write-bytes (length (textOf X)) (omega (arith, write-passed X buffer p .within)))
+
+-- Packing: both counts of words
+
+pack-refused : (n : Refusal) → placeOf n < 2 ^ 56 → unpackedWords (packedWords (words.Refused n)) ≡ words.Refused n
+unfolding unpackedWords
+pack-refused n h = unpacked-refusal words.Refused words.Words n h
+
+pack-words : (i j : ℕ) → i < 2 ^ 32 → j < 2 ^ 24 → unpackedWords (packedWords (words.Words i j)) ≡ words.Words i j
+unfolding unpackedWords
+pack-words i j h k = unpacked-values words.Refused words.Words i j h k
+
+pub pack-returned : (n m : ℕ) (syndrome loss syndromeWords lossWords : List ℕ) →
+    let r = packAnswer n m syndrome loss syndromeWords lossWords in
+    unpackedWords (packedWords r) ≡ r
+unfolding packAnswer
+pack-returned n m syndrome loss syndromeWords lossWords =
+    back packedWords unpackedWords (packRefusal n m syndrome loss syndromeWords lossWords) pack-refused
+    (roomy (pack-small n m syndrome loss syndromeWords lossWords))
+    (λ p.
+    let k = pack-passes n m syndrome loss syndromeWords lossWords p .items in
+    pack-words (wordCount n) (wordCount m) (omega arith) (omega arith))
+
+-- Unpacking: both counts of items
+
+unpack-counts : (n m : ℕ) → n < 2 ^ 32 → m < 2 ^ 24 → unpackedReading (packedReading (reading.Counts n m)) ≡ reading.Counts n m
+unfolding unpackedReading
+unpack-counts n m h k = unpacked-values reading.Refused reading.Counts n m h k
+
+pub unpack-returned : (n m : ℕ) (syndromeWords lossWords syndrome loss : List ℕ) →
+    let r = unpackAnswer n m syndromeWords lossWords syndrome loss in
+    unpackedReading (packedReading r) ≡ r
+unfolding unpackAnswer
+unpack-returned n m syndromeWords lossWords syndrome loss =
+    back packedReading unpackedReading (unpackRefusal n m syndromeWords lossWords syndrome loss) read-refusal
+    (roomy (unpack-small n m syndromeWords lossWords syndrome loss))
+    (λ p.
+    let k = unpack-passes n m syndrome loss syndromeWords lossWords p .items in
+    unpack-counts n m (omega arith) (omega arith))
+
+-- The lit total, of the list too
+
+lit-refused : (n : Refusal) → placeOf n < 2 ^ 56 → unpackedLit (packedLit (lit.Refused n)) ≡ lit.Refused n
+unfolding unpackedLit
+lit-refused n h = unpacked-refusal lit.Refused (λ total rest. lit.Total total) n h
+
+lit-value : (t : ℕ) → t < 2 ^ 32 → unpackedLit (packedLit (lit.Total t)) ≡ lit.Total t
+unfolding unpackedLit
+lit-value t h = unpacked-values lit.Refused (λ total rest. lit.Total total) t 0 h (omega arith)
+
+-- no more vertices are lit than there are bits
+total-bound : (words : List ℕ) → litTotal words ≤ 64 * length words
+unfolding litTotal
+total-bound words = count-bound (64 * length words) (inWords words)
+
+total-returned : (n : ℕ) (words : List ℕ) (others : Bool) →
+    let r = answer (litRefusal n words others) lit.Refused (lit.Total (litTotal words)) in
+    unpackedLit (packedLit r) ≡ r
+total-returned n words others =
+    back packedLit unpackedLit (litRefusal n words others) lit-refused (roomy (lit-small n words others))
+    (λ p.
+    let k = lit-passes n words others p in
+    lit-value (litTotal words) (omega (arith, total-bound words, k .within .count)))
+
+pub lit-returned : (n : ℕ) (words : List ℕ) → unpackedLit (packedLit (litAnswer n words)) ≡ litAnswer n words
+unfolding litAnswer
+lit-returned n words = total-returned n words true
+
+pub list-returned : (n : ℕ) (words list : List ℕ) → unpackedLit (packedLit (listAnswer n words list)) ≡ listAnswer n words list
+unfolding listAnswer
+list-returned n words list = total-returned n words (sized list n)

@@ -1,6 +1,7 @@
 // The static library: the calls of the table under plain C names, each answering one packed number. Of each, `number` says which number,
-// and `outcome` that what a caller takes from it is the call's answer, with the final contents of every buffer; of decoding, by growths
-// and in rounds, of the verdict, with faces too, and of the stack, `sound` says what may be relied on, of the same answer.
+// and `outcome` that what a caller takes from it is the call's answer, with the final contents of every buffer; of decoding, in rounds too,
+// of the verdict, with faces too, of the stack and of all calls on packed sheets, `sound` says what may be relied on, of the same answer.
+// The words of a packed syndrome are lent as `lit`, those of packed losses as `lost`.
 mod packing;
 
 use crate::packing::pack;
@@ -9,6 +10,8 @@ use crate::packing::pack_verdict;
 use model::answers::Built;
 use model::answers::Decoded;
 use model::answers::Distance;
+use model::answers::Lit;
+use model::answers::Packed;
 use model::answers::Reading;
 use model::answers::RoundsDecoded;
 use model::answers::Written;
@@ -20,8 +23,11 @@ ghost use Rattle.model.specs.FacesOutcomes.{facesAnswer, ShowsFaces, FacesSound
 ghost use Rattle.model.specs.StackOutcomes.{stackAnswer, BuildsStack, StacksSoundly};
 ghost use Rattle.model.specs.RoundsOutcomes.{roundsAnswer, DecodesInRounds, RoundsSoundly};
 ghost use Rattle.model.specs.TextOutcomes.{buffersOf, counts, readOutcome, Reads, writeAnswer, Writes};
+ghost use Rattle.model.specs.WordOutcomes.{decodePackedAnswer, DecodesPacked, DecodesPackedSoundly, packAnswer, Packs, PacksSoundly};
+ghost use Rattle.model.specs.WordOutcomes.{unpackAnswer, Unpacks, UnpacksSoundly, litAnswer, Totals, TotalsSoundly, listAnswer, Lists};
 ghost use Rattle.model.specs.Packing.{packedDecoded, packedRounds, packedVerdict, packedDistance, packedBuilt, packedReading, packedWritten};
 ghost use Rattle.model.specs.Packing.{unpackedDecoded, unpackedRounds, unpackedVerdict, unpackedDistance, unpackedBuilt, unpackedReading, unpackedWritten};
+ghost use Rattle.model.specs.Packing.{packedWords, packedLit, unpackedWords, unpackedLit};
 
 // The key of a sheet: growths and correction edges, with the support and correction bytes filled.
 #[no_mangle]
@@ -94,6 +100,46 @@ pub extern "C" fn surface_decode_rounds(
     ) {
         RoundsDecoded::RoundsKey { rounds, edges } => pack(rounds, edges),
         RoundsDecoded::Refused(n) => pack_refusal(n),
+    }
+}
+
+// The key of a packed sheet, as of its bytes: growths and correction edges, with the support and correction bytes filled.
+#[no_mangle]
+pub extern "C" fn surface_decode_packed(
+    vertices: usize,
+    ends: &[u16],
+    marks: &[u8],
+    opened: &[u8],
+    lit: &[u64],
+    lost: &[u64],
+    support: &mut [u8],
+    correction: &mut [u8],
+) -> u64
+    ensures number { λ r.
+        ⌜ r ≡ packedDecoded
+        (decodePackedAnswer (boardLent vertices ends marks opened) (before lit) (before lost) (before support) (before correction)) ⌝ }
+    ensures outcome { λ r.
+        ⌜ DecodesPacked (boardLent vertices ends marks opened) (before lit) (before lost) (before support) (before correction)
+        (unpackedDecoded r) (after support) (after correction) ⌝ }
+    ensures sound { λ r.
+        ⌜ DecodesPackedSoundly (boardLent vertices ends marks opened) (before lit) (before lost) (before support) (before correction)
+        (unpackedDecoded r) (after support) (after correction) ⌝ }
+{
+    match packed::decode_packed(
+        vertices,
+        ends,
+        marks,
+        opened,
+        lit,
+        lost,
+        support,
+        correction,
+    ) {
+        Decoded::Key {
+            growths: i,
+            edges: j,
+        } => pack(i, j),
+        Decoded::Refused(n) => pack_refusal(n),
     }
 }
 
@@ -267,5 +313,87 @@ pub extern "C" fn surface_write(
     match text::writing::write(vertices, ends, marks, opened, syndrome, loss, text) {
         Written::Bytes(n) => pack(n, 0),
         Written::Refused(n) => pack_refusal(n),
+    }
+}
+
+// The words of a syndrome and of losses, filled from their bytes: how many there are of each.
+#[no_mangle]
+pub extern "C" fn surface_pack(
+    vertices: usize,
+    edges: usize,
+    syndrome: &[u8],
+    loss: &[u8],
+    lit: &mut [u64],
+    lost: &mut [u64],
+) -> u64
+    ensures number { λ r.
+        ⌜ r ≡ packedWords
+        (packAnswer vertices edges (before syndrome) (before loss) (before lit) (before lost)) ⌝ }
+    ensures outcome { λ r.
+        ⌜ Packs vertices edges (before syndrome) (before loss) (before lit) (before lost)
+        (unpackedWords r) (after lit) (after lost) ⌝ }
+    ensures sound { λ r.
+        ⌜ PacksSoundly vertices edges (before syndrome) (before loss) (unpackedWords r) (after lit) (after lost) ⌝ }
+{
+    match packed::pack(vertices, edges, syndrome, loss, lit, lost) {
+        Packed::Words {
+            syndrome: i,
+            loss: j,
+        } => pack(i, j),
+        Packed::Refused(n) => pack_refusal(n),
+    }
+}
+
+// The bytes of a syndrome and of losses, filled from their words: vertices and edges.
+#[no_mangle]
+pub extern "C" fn surface_unpack(
+    vertices: usize,
+    edges: usize,
+    lit: &[u64],
+    lost: &[u64],
+    syndrome: &mut [u8],
+    loss: &mut [u8],
+) -> u64
+    ensures number { λ r.
+        ⌜ r ≡ packedReading
+        (unpackAnswer vertices edges (before lit) (before lost) (before syndrome) (before loss)) ⌝ }
+    ensures outcome { λ r.
+        ⌜ Unpacks vertices edges (before lit) (before lost) (before syndrome) (before loss)
+        (unpackedReading r) (after syndrome) (after loss) ⌝ }
+    ensures sound { λ r.
+        ⌜ UnpacksSoundly vertices edges (before lit) (before lost) (unpackedReading r) (after syndrome) (after loss) ⌝ }
+{
+    match packed::unpack(vertices, edges, lit, lost, syndrome, loss) {
+        Reading::Counts {
+            vertices: i,
+            edges: j,
+        } => pack(i, j),
+        Reading::Refused(n) => pack_refusal(n),
+    }
+}
+
+// The lit vertices of a packed syndrome: their total.
+#[no_mangle]
+pub extern "C" fn surface_lit_total(vertices: usize, lit: &[u64]) -> u64
+    ensures number { λ r. ⌜ r ≡ packedLit (litAnswer vertices (before lit)) ⌝ }
+    ensures outcome { λ r. ⌜ Totals vertices (before lit) (unpackedLit r) ⌝ }
+    ensures sound { λ r. ⌜ TotalsSoundly vertices (before lit) (unpackedLit r) ⌝ }
+{
+    match packed::lit_total(vertices, lit) {
+        Lit::Total(t) => pack(t, 0),
+        Lit::Refused(n) => pack_refusal(n),
+    }
+}
+
+// The same, with the lit vertices, rising, at the front of the lent list: their total.
+#[no_mangle]
+pub extern "C" fn surface_list_lit(vertices: usize, lit: &[u64], list: &mut [u16]) -> u64
+    ensures number { λ r. ⌜ r ≡ packedLit (listAnswer vertices (before lit) (before list)) ⌝ }
+    ensures outcome { λ r. ⌜ Lists vertices (before lit) (before list) (unpackedLit r) (after list) ⌝ }
+    ensures sound { λ r. ⌜ TotalsSoundly vertices (before lit) (unpackedLit r) ⌝ }
+{
+    match packed::list_lit(vertices, lit, list) {
+        Lit::Total(t) => pack(t, 0),
+        Lit::Refused(n) => pack_refusal(n),
     }
 }

@@ -14,10 +14,10 @@ use Rattle.packed.proofs.listing.list_bits.Statement.{statement}
 use Rattle.packed.proofs.listing.list_bits.Tie as tie
 
 abbrev Inv-loop : tie.InvT-loop
-Inv-loop words list₀ total₀ w₀ list total w = (w ≤ length words) × Stored (itemsIn w words) list₀ 0 list total
+Inv-loop words list₀ listed₀ w₀ list listed w = (w ≤ length words) × Stored (itemsIn w words) list₀ 0 list listed
 
 abbrev μ-loop : tie.MeasureT-loop
-μ-loop words list₀ total₀ w₀ list total w = length words - w
+μ-loop words list₀ listed₀ w₀ list listed w = length words - w
 
 loop-holds : tie.Need-loop-holds Inv-loop μ-loop
 unfolding members
