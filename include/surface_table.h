@@ -109,7 +109,7 @@ static inline const char *surface_refusal_text(unsigned number)
     switch (number) {
     case SURFACE_NOT_REFUSED: return "nothing is refused";
     case SURFACE_REFUSED_VERTEX_COUNT: return "the vertex count is 0 or above 1,024";
-    case SURFACE_REFUSED_END_COUNT: return "the count of ends is odd or above 8,192";
+    case SURFACE_REFUSED_END_COUNT: return "the count of ends is odd or above 8,192, or that of edges above 4,096";
     case SURFACE_REFUSED_BUFFER_LENGTH: return "a lent buffer has the wrong length";
     case SURFACE_REFUSED_END_RANGE: return "the edge has an end at or above the vertex count";
     case SURFACE_REFUSED_MARK_RANGE: return "the edge has a mark above 3";
@@ -135,7 +135,7 @@ static inline const char *surface_refusal_text(unsigned number)
  * of one thread don't nest, so the largest of those that it makes is enough. */
 #define SURFACE_STACK_DECODE 57344
 #define SURFACE_STACK_DECODE_ROUNDS 57344
-#define SURFACE_STACK_DECODE_PACKED 65536
+#define SURFACE_STACK_DECODE_PACKED 61440
 #define SURFACE_STACK_VERDICT 65536
 #define SURFACE_STACK_FACES 73728
 #define SURFACE_STACK_DISTANCE 69632

@@ -5,14 +5,14 @@
 mod packing;
 
 use crate::packing::pack;
+use crate::packing::pack_decoded;
+use crate::packing::pack_lit;
+use crate::packing::pack_reading;
 use crate::packing::pack_refusal;
 use crate::packing::pack_verdict;
 use model::answers::Built;
-use model::answers::Decoded;
 use model::answers::Distance;
-use model::answers::Lit;
 use model::answers::Packed;
-use model::answers::Reading;
 use model::answers::RoundsDecoded;
 use model::answers::Written;
 ghost use mathlib.Core.Path.{_≡_};
@@ -51,7 +51,7 @@ pub extern "C" fn surface_decode(
         ⌜ DecodesSoundly (sheetLent vertices ends marks opened syndrome loss) (before support) (before correction)
         (unpackedDecoded r) (after correction) ⌝ }
 {
-    match decoder::decode(
+    pack_decoded(decoder::decode(
         vertices,
         ends,
         marks,
@@ -60,10 +60,7 @@ pub extern "C" fn surface_decode(
         loss,
         support,
         correction,
-    ) {
-        Decoded::Key { growths, edges } => pack(growths, edges),
-        Decoded::Refused(n) => pack_refusal(n),
-    }
+    ))
 }
 
 // The key of a sheet by rounds: rounds and correction edges, with the support and correction bytes filled.
@@ -125,7 +122,7 @@ pub extern "C" fn surface_decode_packed(
         ⌜ DecodesPackedSoundly (boardLent vertices ends marks opened) (before lit) (before lost) (before support) (before correction)
         (unpackedDecoded r) (after support) (after correction) ⌝ }
 {
-    match packed::decode_packed(
+    pack_decoded(packed::decode_packed(
         vertices,
         ends,
         marks,
@@ -134,13 +131,7 @@ pub extern "C" fn surface_decode_packed(
         lost,
         support,
         correction,
-    ) {
-        Decoded::Key {
-            growths: i,
-            edges: j,
-        } => pack(i, j),
-        Decoded::Refused(n) => pack_refusal(n),
-    }
+    ))
 }
 
 // The verdict on a handed-in set: 1 off with the vertex, 2 same, 3 wound with the value.
@@ -288,10 +279,7 @@ pub extern "C" fn surface_read(
         ⌜ Reads (before text) (buffersOf (before ends) (before marks) (before opened) (before syndrome) (before loss))
         (unpackedReading r) (buffersOf (after ends) (after marks) (after opened) (after syndrome) (after loss)) ⌝ }
 {
-    match text::reading::read(text, ends, marks, opened, syndrome, loss) {
-        Reading::Counts { vertices, edges } => pack(vertices, edges),
-        Reading::Refused(n) => pack_refusal(n),
-    }
+    pack_reading(text::reading::read(text, ends, marks, opened, syndrome, loss))
 }
 
 // The text of a sheet, at the front of the lent buffer: its bytes.
@@ -363,13 +351,7 @@ pub extern "C" fn surface_unpack(
     ensures sound { λ r.
         ⌜ UnpacksSoundly vertices edges (before lit) (before lost) (unpackedReading r) (after syndrome) (after loss) ⌝ }
 {
-    match packed::unpack(vertices, edges, lit, lost, syndrome, loss) {
-        Reading::Counts {
-            vertices: i,
-            edges: j,
-        } => pack(i, j),
-        Reading::Refused(n) => pack_refusal(n),
-    }
+    pack_reading(packed::unpack(vertices, edges, lit, lost, syndrome, loss))
 }
 
 // The lit vertices of a packed syndrome: their total.
@@ -379,10 +361,7 @@ pub extern "C" fn surface_lit_total(vertices: usize, lit: &[u64]) -> u64
     ensures outcome { λ r. ⌜ Totals vertices (before lit) (unpackedLit r) ⌝ }
     ensures sound { λ r. ⌜ TotalsSoundly vertices (before lit) (unpackedLit r) ⌝ }
 {
-    match packed::lit_total(vertices, lit) {
-        Lit::Total(t) => pack(t, 0),
-        Lit::Refused(n) => pack_refusal(n),
-    }
+    pack_lit(packed::lit_total(vertices, lit))
 }
 
 // The same, with the lit vertices, rising, at the front of the lent list: their total.
@@ -392,8 +371,5 @@ pub extern "C" fn surface_list_lit(vertices: usize, lit: &[u64], list: &mut [u16
     ensures outcome { λ r. ⌜ Lists vertices (before lit) (before list) (unpackedLit r) (after list) ⌝ }
     ensures sound { λ r. ⌜ TotalsSoundly vertices (before lit) (unpackedLit r) ⌝ }
 {
-    match packed::list_lit(vertices, lit, list) {
-        Lit::Total(t) => pack(t, 0),
-        Lit::Refused(n) => pack_refusal(n),
-    }
+    pack_lit(packed::list_lit(vertices, lit, list))
 }

@@ -1,11 +1,14 @@
 // An answer as one number: bits 0 to 7 the refusal's number or 0; where refused, bits 8 to 63 the place; else bits 8 to 39 a first and
 // bits 40 to 63 a second value.
+use model::answers::Decoded;
+use model::answers::Lit;
+use model::answers::Reading;
 use model::answers::Verdict;
 use model::refusal::Refusal;
 use model::refusal::number;
 use model::refusal::place;
 ghost use mathlib.Core.Path.{_≡_};
-ghost use Rattle.model.specs.Packing.{packed, packedRefusal, packedVerdict};
+ghost use Rattle.model.specs.Packing.{packed, packedRefusal, packedDecoded, packedVerdict, packedReading, packedLit};
 
 pub(crate) fn pack(first: usize, second: usize) -> u64
     ensures { λ r. ⌜ r ≡ packed first second ⌝ }
@@ -23,6 +26,16 @@ pub(crate) fn pack_refusal(refusal: Refusal) -> u64
     n + 256 * at
 }
 
+// A key: growths, correction edges.
+pub(crate) fn pack_decoded(decoded: Decoded) -> u64
+    ensures { λ r. ⌜ r ≡ packedDecoded decoded ⌝ }
+{
+    match decoded {
+        Decoded::Key { growths, edges } => pack(growths, edges),
+        Decoded::Refused(n) => pack_refusal(n),
+    }
+}
+
 // A verdict: 1 off with the vertex, 2 same, 3 wound with the value.
 pub(crate) fn pack_verdict(verdict: Verdict) -> u64
     ensures { λ r. ⌜ r ≡ packedVerdict verdict ⌝ }
@@ -32,5 +45,25 @@ pub(crate) fn pack_verdict(verdict: Verdict) -> u64
         Verdict::Same => pack(2, 0),
         Verdict::Wound(x) => pack(3, x as usize),
         Verdict::Refused(n) => pack_refusal(n),
+    }
+}
+
+// Both counts of a sheet: vertices, edges.
+pub(crate) fn pack_reading(reading: Reading) -> u64
+    ensures { λ r. ⌜ r ≡ packedReading reading ⌝ }
+{
+    match reading {
+        Reading::Counts { vertices, edges } => pack(vertices, edges),
+        Reading::Refused(n) => pack_refusal(n),
+    }
+}
+
+// The total of lit vertices, 0.
+pub(crate) fn pack_lit(lit: Lit) -> u64
+    ensures { λ r. ⌜ r ≡ packedLit lit ⌝ }
+{
+    match lit {
+        Lit::Total(total) => pack(total, 0),
+        Lit::Refused(n) => pack_refusal(n),
     }
 }

@@ -155,7 +155,7 @@ impl fmt::Display for Refusal {
     fn fmt(&self, to: &mut fmt::Formatter<'_>) -> fmt::Result {
         match self {
             Refusal::VertexCount => write!(to, "the vertex count is 0 or above 1,024"),
-            Refusal::EndCount => write!(to, "the count of ends is odd or above 8,192"),
+            Refusal::EndCount => write!(to, "the count of ends is odd or above 8,192, or that of edges above 4,096"),
             Refusal::BufferLength => write!(to, "a lent buffer has the wrong length"),
             Refusal::EndRange(edge) => {
                 write!(to, "edge {edge} has an end at or above the vertex count")

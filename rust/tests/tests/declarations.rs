@@ -19,13 +19,17 @@ fn functions(source: &str, start: &str, parameter: fn(&str) -> String) -> Vec<Fu
     source.split(start).skip(1).map(function).collect()
 }
 
-/// A parameter of the Rattle source as it stands there, but for the open bytes, which it calls
-/// `opened`.
+/// A parameter of the Rattle source as it stands there, but for the open bytes and the words of a
+/// packed sheet, which it calls `opened`, `lit` and `lost`.
 fn in_rattle(parameter: &str) -> String {
-    match parameter.strip_prefix("opened: ") {
-        Some(kind) => format!("open: {kind}"),
-        None => parameter.to_string(),
-    }
+    let (name, kind) = parameter.split_once(": ").expect("a name and a type");
+    let name = match name {
+        "opened" => "open",
+        "lit" => "syndrome_words",
+        "lost" => "loss_words",
+        other => other,
+    };
+    format!("{name}: {kind}")
 }
 
 /// A parameter of C as Rust writes it: `const uint8_t *loss` is `loss: *const u8`.

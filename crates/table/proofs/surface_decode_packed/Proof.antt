@@ -1,8 +1,6 @@
 -- The number is the packed answer of the definition; what it is taken apart into is what `decode_packed` answered, with the buffers that it
 -- left. Assumes nothing.
-use mathlib.Core.Path.{sym, ap, _∙_}
 use borrow.Author.Needs.{needs}
-use Rattle.model.specs.Packing.{packedDecoded}
 use Rattle.table.proofs.Exported.{decode-packed-exported}
 use Rattle.table.proofs.surface_decode_packed.Statement.{statement}
 use Rattle.table.proofs.surface_decode_packed.Tie as tie
@@ -10,17 +8,8 @@ use Rattle.table.proofs.surface_decode_packed.Tie as tie
 decode-packed-requires : tie.Need-decode-packed-requires
 decode-packed-requires c κs = search needs
 
-enum-known-i : tie.Need-enum-known-i
-enum-known-i c = search needs
-
-pack-requires : tie.Need-pack-requires
-pack-requires c κs = search needs
-
-enum-known-n : tie.Need-enum-known-n
-enum-known-n c = search needs
-
-pack-refusal-requires : tie.Need-pack-refusal-requires
-pack-refusal-requires c κs = search needs
+pack-decoded-requires : tie.Need-pack-decoded-requires
+pack-decoded-requires c κs = search needs
 
 same-length : tie.Need-same-length
 same-length c = search needs
@@ -30,34 +19,7 @@ same-length-2 c = search needs
 
 returns : tie.Need-returns
 returns c =
-    let met = c .before .before in
-    let answered = met .before .before .before .before .before .before in
-    decode-packed-exported (c .pack .ensures ∙ ap packedDecoded (sym (met .i .given .1))) (answered .decode-packed .ensures)
-
-same-length-3 : tie.Need-same-length-3
-same-length-3 c = search needs
-
-same-length-4 : tie.Need-same-length-4
-same-length-4 c = search needs
-
-returns-2 : tie.Need-returns-2
-returns-2 c =
-    let met = c .before .before in
-    let answered = met .before .before .before .before .before .before in
-    decode-packed-exported (c .pack-refusal .ensures ∙ ap packedDecoded (sym (met .n .given .1))) (answered .decode-packed .ensures)
+    let answered = c .before .before .before .before .before in decode-packed-exported (c .pack-decoded .ensures) (answered .decode-packed .ensures)
 
 pub surface-decode-packed-spec : {M : Type 1} → statement M
-surface-decode-packed-spec =
-    tie.close
-    (tie.spec
-    decode-packed-requires
-    enum-known-i
-    pack-requires
-    enum-known-n
-    pack-refusal-requires
-    same-length
-    same-length-2
-    returns
-    same-length-3
-    same-length-4
-    returns-2)
+surface-decode-packed-spec = tie.close (tie.spec decode-packed-requires pack-decoded-requires same-length same-length-2 returns)
