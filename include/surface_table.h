@@ -109,7 +109,8 @@ static inline const char *surface_refusal_text(unsigned number)
     switch (number) {
     case SURFACE_NOT_REFUSED: return "nothing is refused";
     case SURFACE_REFUSED_VERTEX_COUNT: return "the vertex count is 0 or above 1,024";
-    case SURFACE_REFUSED_END_COUNT: return "the count of ends is odd or above 8,192, or that of edges above 4,096";
+    case SURFACE_REFUSED_END_COUNT:
+        return "the count of ends is odd or above 8,192, or that of edges above 4,096";
     case SURFACE_REFUSED_BUFFER_LENGTH: return "a lent buffer has the wrong length";
     case SURFACE_REFUSED_END_RANGE: return "the edge has an end at or above the vertex count";
     case SURFACE_REFUSED_MARK_RANGE: return "the edge has a mark above 3";
@@ -180,7 +181,7 @@ uint64_t surface_decode_rounds(size_t vertices,
 
 /* Decodes a packed sheet. Fills and answers as surface_decode does on the bytes that surface_unpack
  * makes of the words: the growths, and the number of correction edges. It refuses as surface_decode
- * does on them, and by 19, where that would test the bytes by 7 and 8, after 6 and before 16. */
+ * does, but for 7 and 8: in their place, after 6 and before 16, it tests the words by 19. */
 uint64_t surface_decode_packed(size_t vertices,
                                const uint16_t *ends, size_t ends_count,
                                const uint8_t *marks, size_t marks_count,

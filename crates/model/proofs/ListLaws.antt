@@ -1,13 +1,13 @@
 -- Laws of lists that are made by index, and of stores. Assumes nothing.
-use Prim.Native.Nat.{ℕ, zero, suc, _≤_, _<_}
+use Prim.Native.Nat.{ℕ, zero, suc, _+_, _≤_, _<_}
 use mathlib.Core.Path.{_≡_, refl, sym, ap, ap₂, _∙_}
 use mathlib.Core.Bool.{Bool, true, false, cond}
 use mathlib.Core.List.{List, [], _∷_, _++_}
-use native.Mathlib.Nat.{not-suc-le-zero, le-of-suc-le-suc}
+use native.Mathlib.Nat.{not-suc-le-zero, le-of-suc-le-suc, add-zero}
 use native.Mathlib.Omega.{arith}
 use lib.ListN.{length, getD, set, take, replicate, length-replicate}
 use borrow.Author.Tests.{eqb-true, eqb-false}
-use lib.Seq.{ext-getD, getD-set-same, getD-set-other}
+use lib.Seq.{ext-getD, getD-set-same, getD-set-other, sets}
 use lib.Dec.{eqb}
 use Rattle.model.specs.Sums.{Set, bit, values, ones, bytes}
 use Rattle.model.specs.Board.{ValidBytes}
@@ -76,3 +76,10 @@ front-replicate (suc m) (suc n) x h = ap (λ l. x ∷ l) (front-replicate m n x 
 
 pub front-long : (m n x : ℕ) → m ≤ n → length (take m (replicate n x)) ≡ m
 front-long m n x h = ap length (front-replicate m n x h) ∙ length-replicate m x
+
+-- entries stored behind others that were stored
+pub sets-append : (xs ys l : List ℕ) (i : ℕ) → sets (sets l i xs) (i + length xs) ys ≡ sets l i (xs ++ ys)
+sets-append [] ys l i = rw (add-zero i)
+sets-append (x ∷ xs) ys l i =
+    ap (λ k. sets (sets (set l i x) (suc i) xs) k ys) {x = i + suc (length xs)} {y = suc i + length xs} (omega arith)
+    ∙ sets-append xs ys (set l i x) (suc i)

@@ -1,5 +1,6 @@
 -- Document 02, K7: the rules of the calls on packed sheets, in the order of their tests. Number 19 is that of a bit past the last item; its
--- place is the word in its own sheet, and syndrome words come before loss words.
+-- place is the word in its own sheet, and syndrome words come before loss words. The words of a syndrome are called `lit` here, those of the
+-- losses `lost`.
 -- Assumes nothing.
 use Prim.Native.Nat.{ℕ}
 use mathlib.Core.Bool.{Bool, _&&_}
@@ -21,36 +22,36 @@ wordRule n words = each (length words) (pastLast n words) (λ w. PastLast (recor
 
 unfoldable pub wordRules : ℕ → List ℕ → ℕ → List ℕ → List Rule
 unfolding wordRule
-wordRules n syndrome m loss = wordRule n syndrome ∷ wordRule m loss ∷ []
+wordRules n lit m lost = wordRule n lit ∷ wordRule m lost ∷ []
 
--- syndrome and loss have a word for each 64 vertices and edges, and one for the rest
+-- there are as many words as the vertices and the edges fill
 abbrev pub wordsSized : ℕ → ℕ → List ℕ → List ℕ → Bool
-wordsSized n m syndrome loss = sized syndrome (wordCount n) && sized loss (wordCount m)
+wordsSized n m lit lost = sized lit (wordCount n) && sized lost (wordCount m)
 
--- Packing and unpacking are lent both counts, bytes for both and words for both, of which the one are filled from the other.
+-- Packing and unpacking are lent both counts, and bytes and words of both: packing fills the words, unpacking the bytes.
 abbrev pub itemRules : ℕ → ℕ → List ℕ → List ℕ → List ℕ → List ℕ → List Rule
-itemRules n m syndrome loss syndromeWords lossWords =
+itemRules n m syndrome loss lit lost =
     vertexCountRule n
     ∷ edgeCountRule m
-    ∷ lengthRule ((sized syndrome n && sized loss m) && wordsSized n m syndromeWords lossWords)
+    ∷ lengthRule ((sized syndrome n && sized loss m) && wordsSized n m lit lost)
     ∷ []
 
 unfoldable pub packRules : ℕ → ℕ → List ℕ → List ℕ → List ℕ → List ℕ → List Rule
-packRules n m syndrome loss syndromeWords lossWords =
-    itemRules n m syndrome loss syndromeWords lossWords ++ byteRules syndrome loss
+packRules n m syndrome loss lit lost =
+    itemRules n m syndrome loss lit lost ++ byteRules syndrome loss
 
 unfoldable pub packRefusal : ℕ → ℕ → List ℕ → List ℕ → List ℕ → List ℕ → Test
 unfolding packRules
-packRefusal n m syndrome loss syndromeWords lossWords = refusalOf (packRules n m syndrome loss syndromeWords lossWords)
+packRefusal n m syndrome loss lit lost = refusalOf (packRules n m syndrome loss lit lost)
 
 unfoldable pub unpackRules : ℕ → ℕ → List ℕ → List ℕ → List ℕ → List ℕ → List Rule
 unfolding wordRules
-unpackRules n m syndromeWords lossWords syndrome loss =
-    itemRules n m syndrome loss syndromeWords lossWords ++ wordRules n syndromeWords m lossWords
+unpackRules n m lit lost syndrome loss =
+    itemRules n m syndrome loss lit lost ++ wordRules n lit m lost
 
 unfoldable pub unpackRefusal : ℕ → ℕ → List ℕ → List ℕ → List ℕ → List ℕ → Test
 unfolding unpackRules
-unpackRefusal n m syndromeWords lossWords syndrome loss = refusalOf (unpackRules n m syndromeWords lossWords syndrome loss)
+unpackRefusal n m lit lost syndrome loss = refusalOf (unpackRules n m lit lost syndrome loss)
 
 -- The lit total is lent the vertex count and the words of a syndrome, the list of lit vertices also a buffer to fill; `others` says that it has
 -- its length, an entry for each vertex.
@@ -65,22 +66,22 @@ litRefusal n words others = refusalOf (litRules n words others)
 -- Decoding of a packed sheet is lent a board, the words of both, and two buffers to fill. Rule 19 stands in the place of 7 and 8. It tests for
 -- number 10 as decoding does.
 abbrev pub packedBoardRules : Board → List ℕ → List ℕ → List ℕ → List ℕ → List Rule
-packedBoardRules B syndrome loss support correction =
+packedBoardRules B lit lost support correction =
     let m = edgesOf (B .ends) in
-    boardRules B (wordsSized (B .vertices) m syndrome loss && (sized support m && sized correction m))
+    boardRules B (wordsSized (B .vertices) m lit lost && (sized support m && sized correction m))
 
 -- 1, 2, 3, 4, 6 and 19 ..
 unfoldable pub packedRules : Board → List ℕ → List ℕ → List ℕ → List ℕ → List Rule
 unfolding boardRules wordRules
-packedRules B syndrome loss support correction =
-    packedBoardRules B syndrome loss support correction ++ wordRules (B .vertices) syndrome (edgesOf (B .ends)) loss
+packedRules B lit lost support correction =
+    packedBoardRules B lit lost support correction ++ wordRules (B .vertices) lit (edgesOf (B .ends)) lost
 
 -- .. and then 16 and 17, of the sheet that is packed
 unfoldable pub decodePackedRules : Board → List ℕ → List ℕ → List ℕ → List ℕ → List Rule
 unfolding packedRules unpackedSheet
-decodePackedRules B syndrome loss support correction =
-    packedRules B syndrome loss support correction ++ openRules (unpackedSheet B (edgesOf (B .ends)) syndrome loss)
+decodePackedRules B lit lost support correction =
+    packedRules B lit lost support correction ++ openRules (unpackedSheet B lit lost)
 
 unfoldable pub decodePackedRefusal : Board → List ℕ → List ℕ → List ℕ → List ℕ → Test
 unfolding decodePackedRules
-decodePackedRefusal B syndrome loss support correction = refusalOf (decodePackedRules B syndrome loss support correction)
+decodePackedRefusal B lit lost support correction = refusalOf (decodePackedRules B lit lost support correction)

@@ -7,6 +7,7 @@ use lib.ListN.{length, getD}
 use lib.Dec.{eqb, leb, ltb}
 use Rattle.model.specs.Sums.{Set, bit, countUpTo, someUpTo, values, bytes, members}
 use Rattle.model.specs.Board.{Board, Sheet, sheetOf}
+use Rattle.model.specs.Refusals.{edgesOf}
 
 -- bit k of a number, the lowest being bit 0
 abbrev pub bitOf : ℕ → Set
@@ -40,10 +41,10 @@ wordsOf n D = values (wordCount n) (λ w. numberWith 64 (itemsOf n D w))
 unfoldable pub bytesIn : ℕ → List ℕ → List ℕ
 bytesIn n words = bytes n (inWords words)
 
--- the sheet of a board whose syndrome and losses are packed: m is the number of its edges
-unfoldable pub unpackedSheet : Board → ℕ → List ℕ → List ℕ → Sheet
+-- the sheet of a board whose syndrome and losses are packed in the words `lit` and `lost`
+unfoldable pub unpackedSheet : Board → List ℕ → List ℕ → Sheet
 unfolding bytesIn
-unpackedSheet B m syndrome loss = sheetOf B (bytesIn (B .vertices) syndrome) (bytesIn m loss)
+unpackedSheet B lit lost = sheetOf B (bytesIn (B .vertices) lit) (bytesIn (edgesOf (B .ends)) lost)
 
 -- Bits past the last of n items: word w has one
 

@@ -1,8 +1,5 @@
 // The limits of what is lent. They stand here alone.
 
-// The bits of a word of a packed sheet.
-pub const WORD: usize = 64;
-
 // The largest vertex count of a board.
 pub const VERTICES: usize = 1024;
 

@@ -1,14 +1,13 @@
 -- The numbers of a number's set bits as a list: its first is at the trailing zeros, all words together hold the members of their set, and
 -- there are as many as count_ones says. Assumes nothing.
-use Prim.Native.Nat.{ℕ, zero, suc, _+_, _-_, _*_, _/_, _%_, _^_, _≤_, _<_}
-use mathlib.Core.Path.{_≡_, refl, sym, ap, ap₂, _∙_, subst}
+use Prim.Native.Nat.{ℕ, zero, suc, _+_, _-_, _/_, _%_, _^_, _≤_, _<_}
+use mathlib.Core.Path.{_≡_, refl, sym, ap, ap₂, _∙_}
 use mathlib.Core.Bool.{Bool, true, false, cond}
-use mathlib.Core.List.{List, [], _∷_, _++_, append-nil, append-assoc}
-use native.Mathlib.Nat.{le-of-suc-le-suc, not-suc-le-zero, add-zero, add-suc, pow-succ'}
+use mathlib.Core.List.{[], _∷_, _++_, append-nil, append-assoc}
+use native.Mathlib.Nat.{add-zero, add-suc, pow-succ'}
 use native.Mathlib.Omega.{arith}
 use lib.ListN.{length, length-append}
 use lib.Count.{ones, ones-step, trailingZeros, under}
-use lib.Pow.{pow-pos}
 use Rattle.model.specs.Sums.{Set, bit, countUpTo, members}
 use Rattle.model.specs.Words.{bitOf}
 use Rattle.model.proofs.Bits.{eqb-bit}
@@ -98,15 +97,16 @@ members-past (suc b) n D out =
     rw (add-suc n b, out (n + b) (omega arith) (omega arith), append-nil (members (n + b) D))
     (members-past b n D (λ i h l. out i h (omega arith)))
 
+-- a list of one number or none
+one-or-none : (n : ℕ) (b : Bool) → length (cond b (n ∷ []) []) ≡ bit b
+one-or-none n true = refl
+one-or-none n false = refl
+
 -- there are as many members as are counted
 pub members-long : (n : ℕ) (D : Set) → length (members n D) ≡ countUpTo n D
 unfolding members countUpTo
 members-long zero D = refl
-members-long (suc n) D = length-append (members n D) (cond (D n) (n ∷ []) []) ∙ ap₂ _+_ (members-long n D) (one (D n))
-  where
-    one : (b : Bool) → length (cond b (n ∷ []) []) ≡ bit b
-    one true = refl
-    one false = refl
+members-long (suc n) D = length-append (members n D) (cond (D n) (n ∷ []) []) ∙ ap₂ _+_ (members-long n D) (one-or-none n (D n))
 
 -- set bits are counted as count_ones does
 pub bits-counted : (d first x : ℕ) → x < 2 ^ d → length (bitsFrom d first x) ≡ ones x
@@ -114,8 +114,4 @@ unfolding bitsFrom ones
 bits-counted zero first x below = let none : x ≡ 0 = omega arith in rw none
 bits-counted (suc d) first x below =
     length-append (cond (bitOf x 0) (first ∷ []) []) (bitsFrom d (suc first) (x / 2))
-    ∙ ap₂ _+_ (one (bitOf x 0) ∙ lowest-bit x) (bits-counted d (suc first) (x / 2) (half-below x d below)) ∙ sym (ones-step x)
-  where
-    one : (b : Bool) → length (cond b (first ∷ []) []) ≡ bit b
-    one true = refl
-    one false = refl
+    ∙ ap₂ _+_ (one-or-none first (bitOf x 0) ∙ lowest-bit x) (bits-counted d (suc first) (x / 2) (half-below x d below)) ∙ sym (ones-step x)

@@ -1,18 +1,20 @@
 -- Theorem: packed and plain sheets give equal keys, for any numbers of vertices and edges, and are refused alike. Assumes nothing.
 use Prim.Native.Nat.{ℕ}
-use mathlib.Core.Path.{_≡_, sym, ap, ap₂, _∙_}
+use mathlib.Core.Path.{_≡_, ap, ap₂, _∙_, subst}
+use mathlib.Core.Logic.{_↔_}
 use mathlib.Core.List.{List}
 use Rattle.model.specs.declared.answers.Decoded.{Decoded}
 use Rattle.model.specs.declared.answers.Decoded.the-variants.{Refused}
 use Rattle.model.specs.Sums.{ones}
-use Rattle.model.specs.Board.{Board, Sheet, ValidBytes, sheetOf}
+use Rattle.model.specs.Board.{Board, ValidBytes, sheetOf}
 use Rattle.model.specs.Words.{wordsOf, unpackedSheet}
 use Rattle.model.specs.Refusals.{edgesOf, decodeRefusal}
 use Rattle.model.specs.WordRefusals.{decodePackedRefusal}
-use Rattle.model.specs.Outcomes.{answer, keyOrNone, decodeAnswer}
-use Rattle.model.specs.WordOutcomes.{sheetIn, decodePackedAnswer}
-use Rattle.packed.proofs.RoundTrips.{words-long, words-end, unpacks-packed}
-use Rattle.packed.proofs.Screening.{plain-refusal}
+use Rattle.model.specs.Outcomes.{answer, keyOrNone, decodeAnswer, Decodes}
+use Rattle.model.specs.WordOutcomes.{decodePackedAnswer, DecodesPacked}
+use Rattle.packed.proofs.PackedDecoding.{same-outcome}
+use Rattle.packed.proofs.RoundTrips.{words-within, unpacks-packed}
+use Rattle.packed.proofs.Screening.{as-unpacked}
 
 module _ (B : Board) (syndrome loss : List ℕ) (lit : ValidBytes (B .vertices) syndrome) (lost : ValidBytes (edgesOf (B .ends)) loss) where
   -- the words of both
@@ -23,22 +25,31 @@ module _ (B : Board) (syndrome loss : List ℕ) (lit : ValidBytes (B .vertices) 
   lostWords = wordsOf (edgesOf (B .ends)) (ones loss)
 
   -- the sheet that they hold is the plain one
-  pub same-sheet : sheetIn B litWords lostWords ≡ sheetOf B syndrome loss
+  same-sheet : unpackedSheet B litWords lostWords ≡ sheetOf B syndrome loss
   unfolding unpackedSheet
   same-sheet = ap₂ (sheetOf B) (unpacks-packed (B .vertices) syndrome lit) (unpacks-packed (edgesOf (B .ends)) loss lost)
 
-  -- it is refused alike, whatever is broken
-  pub equal-refusals : (support correction : List ℕ)
-      → decodePackedRefusal B litWords lostWords support correction ≡ decodeRefusal (sheetOf B syndrome loss) support correction
-  equal-refusals support correction =
-      plain-refusal B syndrome loss litWords lostWords support correction lit lost
-      (record { count = words-long (B .vertices) (ones syndrome); none-past = words-end (B .vertices) (ones syndrome) })
-      (record { count = words-long (edgesOf (B .ends)) (ones loss); none-past = words-end (edgesOf (B .ends)) (ones loss) })
-      (unpacks-packed (B .vertices) syndrome lit)
-      (unpacks-packed (edgesOf (B .ends)) loss lost)
+  module _ (support correction : List ℕ) where
+    as-own-sheet : decodePackedRefusal B litWords lostWords support correction ≡ decodeRefusal (unpackedSheet B litWords lostWords) support correction
+    as-own-sheet =
+        as-unpacked B litWords lostWords support correction
+        (words-within (B .vertices) (ones syndrome))
+        (words-within (edgesOf (B .ends)) (ones loss))
 
-  pub equal-answers : (support correction : List ℕ)
-      → decodePackedAnswer B litWords lostWords support correction ≡ decodeAnswer (sheetOf B syndrome loss) support correction
-  unfolding decodePackedAnswer decodeAnswer
-  equal-answers support correction =
-      ap₂ (λ t X. answer t Refused (keyOrNone X)) (equal-refusals support correction) same-sheet
+    -- it is refused alike, whatever is broken
+    pub equal-refusals : decodePackedRefusal B litWords lostWords support correction ≡ decodeRefusal (sheetOf B syndrome loss) support correction
+    equal-refusals = as-own-sheet ∙ ap (λ X. decodeRefusal X support correction) same-sheet
+
+    -- the answers are equal
+    pub equal-answers : decodePackedAnswer B litWords lostWords support correction ≡ decodeAnswer (sheetOf B syndrome loss) support correction
+    unfolding decodePackedAnswer decodeAnswer
+    equal-answers = ap₂ (λ t X. answer t Refused (keyOrNone X)) equal-refusals same-sheet
+
+    -- and with them all that is written: an outcome of the one is an outcome of the other
+    pub equal-keys : (r : Decoded) (support′ correction′ : List ℕ)
+        → DecodesPacked B litWords lostWords support correction r support′ correction′
+        ↔ Decodes (sheetOf B syndrome loss) support correction r support′ correction′
+    equal-keys r support′ correction′ =
+        subst (λ X. DecodesPacked B litWords lostWords support correction r support′ correction′ ↔ Decodes X support correction r support′ correction′)
+        same-sheet
+        (same-outcome B litWords lostWords support correction r support′ correction′ as-own-sheet)

@@ -5,6 +5,7 @@ pub mod PastLast
 pub mod RoundTrips
 pub mod BitLists
 pub mod StoringLaws
+pub mod UnpackedWords
 pub mod PackedWords
 pub mod LitLaws
 pub mod PackOutcome

@@ -2,13 +2,13 @@
 use Prim.Native.Nat.{ℕ, _+_, _-_, _*_, _/_, _%_, _^_, _≤_, _<_}
 use mathlib.Core.Path.{_≡_, sym, ap, ap₂, _∙_, subst}
 use mathlib.Core.Bool.{false, _&&_}
-use mathlib.Core.List.{List, _++_, append-nil}
+use mathlib.Core.List.{List, _++_}
 use native.Mathlib.Omega.{arith}
 use borrow.Author.Tests.{le-leb}
 use lib.ListN.{length, getD, length-append}
 use lib.Count.{ones}
-use Rattle.model.specs.Sums.{Set, countUpTo, members}
-use Rattle.model.specs.Words.{bitOf, inWords, wordCount, pastLast, litTotal, litVertices}
+use Rattle.model.specs.Sums.{countUpTo, members}
+use Rattle.model.specs.Words.{bitOf, inWords, pastLast, litTotal, litVertices}
 use Rattle.model.proofs.SumLaws.{some-none}
 use Rattle.model.proofs.CountLaws.{count-less}
 use Rattle.packed.specs.Listing.{bitsFrom, itemsIn}

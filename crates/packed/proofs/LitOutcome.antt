@@ -8,7 +8,6 @@ use native.Mathlib.Omega.{arith}
 use borrow.Author.Tests.{eqb-true}
 use lib.ListN.{length}
 use Rattle.model.specs.declared.refusal.Refusal.{Refusal}
-use Rattle.model.specs.declared.answers.Lit.{Lit}
 use Rattle.model.specs.declared.answers.Lit.the-variants.{Total, Refused}
 use Rattle.model.specs.Words.{inWords, litTotal}
 use Rattle.model.specs.Refusals.{sized}
@@ -65,7 +64,7 @@ module _ (n : ℕ) (words : List ℕ) where
     pub list-room : litRefusal n words (sized list n) ≡ none → litTotal words ≤ length list
     list-room p =
         let w = lit-passes n words (sized list n) p in
-        omega (arith, eqb-true (length list) n (w .fit), total-lit n words (w .within), count-bound n (inWords words))
+        omega (arith, eqb-true (length list) n (w .counted .fit), total-lit n words (w .within), count-bound n (inWords words))
 
     pub list-filled : (t : ℕ) (list′ : List ℕ) → litRefusal n words (sized list n) ≡ none
         → Stored (itemsIn (length words) words) list 0 list′ t → Lists n words list (Total t) list′ × TotalsSoundly n words (Total t)

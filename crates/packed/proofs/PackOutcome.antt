@@ -1,6 +1,6 @@
 -- The outcome of packing and of unpacking, where a test fails and where all pass, and what may be relied on of it. Assumes nothing.
 use Prim.Native.Nat.{ℕ, _^_, _<_}
-use mathlib.Core.Path.{_≡_, refl, sym, ap, ap₂, subst, _∙_}
+use mathlib.Core.Path.{_≡_, refl, sym, ap, ap₂, _∙_}
 use mathlib.Core.List.{List}
 use mathlib.Core.Option.{none, some}
 use lib.ListN.{length, getD}
@@ -9,7 +9,7 @@ use Rattle.model.specs.declared.answers.Packed.{Packed}
 use Rattle.model.specs.declared.answers.Packed.the-variants as packed
 use Rattle.model.specs.declared.answers.Reading.{Reading}
 use Rattle.model.specs.declared.answers.Reading.the-variants as reading
-use Rattle.model.specs.Sums.{Set, ones}
+use Rattle.model.specs.Sums.{ones}
 use Rattle.model.specs.Board.{ValidBytes}
 use Rattle.model.specs.Words.{wordCount, wordsOf, bytesIn}
 use Rattle.model.specs.WordRefusals.{packRefusal, unpackRefusal}
@@ -17,13 +17,9 @@ use Rattle.model.specs.Outcomes.{answer}
 use Rattle.model.specs.WordOutcomes.{packAnswer, packedOr, Packs, PacksSoundly, unpackAnswer, countsOr, Unpacks, UnpacksSoundly}
 use Rattle.model.proofs.Contradiction.{zero-one}
 use Rattle.model.proofs.Places.{answer-passed}
-use Rattle.packed.proofs.RoundTrips.{words-long, words-end, unpacks-packed, packs-unpacked}
+use Rattle.packed.proofs.RoundTrips.{words-long, words-within, unpacks-packed, packs-unpacked}
 use Rattle.packed.proofs.Screening.{in-bytes}
-use Rattle.packed.proofs.WordTests.{WithinWords, Items, ForPacking, ForUnpacking, pack-passes, passes-pack, unpack-passes, passes-unpack}
-
--- packed words have none past the last item
-within-words : (n : ℕ) (D : Set) → WithinWords n (wordsOf n D)
-within-words n D = record { count = words-long n D; none-past = words-end n D }
+use Rattle.packed.proofs.WordTests.{ForPacking, ForUnpacking, pack-passes, passes-pack, unpack-passes, passes-unpack}
 
 -- valid bytes are as many as they are
 pub as-many : (n : ℕ) (l : List ℕ) → ValidBytes n l → ValidBytes (length l) l
@@ -62,8 +58,8 @@ module _ (n m : ℕ) (syndrome loss lit lost : List ℕ) where
                   syndrome-words = words-long n (ones syndrome);
                   loss-words = words-long m (ones loss);
                 };
-            syndrome-within = within-words n (ones syndrome);
-            loss-within = within-words m (ones loss);
+            syndrome-within = words-within n (ones syndrome);
+            loss-within = words-within m (ones loss);
           }))
 
     -- what was packed is unpacked again
@@ -148,12 +144,8 @@ module _ (n m : ℕ) (lit lost syndrome loss : List ℕ) (lit-fits : (w : ℕ) �
     unpacks-sound =
         record {
           accepted = packable;
-          syndrome-back = λ i j is.
-              let within = fit i j is .syndrome-within in
-              ap (λ l. wordsOf n (ones l)) (syndrome-is i j is) ∙ packs-unpacked n lit (within .count) (within .none-past) lit-fits;
-          loss-back = λ i j is.
-              let within = fit i j is .loss-within in
-              ap (λ l. wordsOf m (ones l)) (loss-is i j is) ∙ packs-unpacked m lost (within .count) (within .none-past) lost-fits;
+          syndrome-back = λ i j is. ap (λ l. wordsOf n (ones l)) (syndrome-is i j is) ∙ packs-unpacked n lit (fit i j is .syndrome-within) lit-fits;
+          loss-back = λ i j is. ap (λ l. wordsOf m (ones l)) (loss-is i j is) ∙ packs-unpacked m lost (fit i j is .loss-within) lost-fits;
         }
 
   abbrev UnpackPromises : Reading → List ℕ → List ℕ → Type 0

@@ -1,7 +1,7 @@
 -- A word put together from its highest bit down, and the bits of the items that it stands for. Assumes nothing.
 use Prim.Native.Nat.{ℕ, suc, _+_, _-_, _*_, _^_, _≤_, _<_}
-use mathlib.Core.Path.{_≡_, refl, sym, ap, ap₂, _∙_}
-use mathlib.Core.Bool.{false, _&&_}
+use mathlib.Core.Path.{_≡_, refl, sym, ap, _∙_}
+use mathlib.Core.Bool.{false}
 use mathlib.Core.List.{List}
 use native.Mathlib.Nat.{add-zero, pow-succ'}
 use native.Mathlib.Omega.{arith}
@@ -12,8 +12,21 @@ use Rattle.model.specs.Sums.{Set, bit, ones}
 use Rattle.model.specs.Board.{ValidBytes}
 use Rattle.model.specs.Words.{numberWith, itemsOf}
 use Rattle.model.proofs.Bits.{byte-bit}
+use Rattle.packed.specs.WordItems.{WordItems}
 use Rattle.packed.specs.Packing.{PackedFrom}
 use Rattle.packed.proofs.BitLaws.{number-cong, number-below, number-short}
+
+-- The items of a word
+
+-- the byte of an item of word w
+pub item-byte : (n : ℕ) (l : List ℕ) (w k : ℕ) → ValidBytes n l → 64 * w + k < n → getD l (64 * w + k) 0 ≡ bit (itemsOf n (ones l) w k)
+item-byte n l w k v h = rw (lt-ltb (64 * w + k) n h) (byte-bit (getD l (64 * w + k) 0) (v .each (64 * w + k) h))
+
+-- past the last there is none
+pub no-item : (n : ℕ) (D : Set) (w k : ℕ) → n ≤ 64 * w + k → itemsOf n D w k ≡ false
+no-item n D w k h = rw (le-ltb (64 * w + k) n h)
+
+-- Bit by bit
 
 -- no bits yet
 pub packed-none : (f : Set) (top : ℕ) → PackedFrom f top top 0
@@ -42,22 +55,18 @@ packed-room {f} {top} {k} {word} some few s =
     let fits : 2 ^ suc (s .count) ≤ 2 ^ 64 = pow-mono {i = suc (s .count)} {j = 64} (omega (arith, s .reaches)) in
     omega (arith, below, s .bits, fits, pow-succ' 2 (s .count))
 
--- all bits of a word
-pub packed-all : {f : Set} {top k word : ℕ} → top ≤ 64 → ((j : ℕ) → top ≤ j → j < 64 → f j ≡ false) → k ≡ 0 → PackedFrom f top k word
-    → word ≡ numberWith 64 f
-packed-all {f} {top} {k} few out done s =
-    let all : s .count ≡ top = omega (arith, s .reaches) in
-    s .bits ∙ number-cong (s .count) _ f (λ j h. ap f (front j)) ∙ ap (λ m. numberWith m f) all ∙ sym (number-short top 64 f few out)
+-- all bits of the items of a word
+pub packed-all : (n : ℕ) (D : Set) (w : ℕ) {count k word : ℕ} → WordItems n w count → k ≡ 0 → PackedFrom (itemsOf n D w) count k word
+    → word ≡ numberWith 64 (itemsOf n D w)
+packed-all n D w {count} {k} items done s =
+    let all : s .count ≡ count = omega (arith, s .reaches) in
+    s .bits
+    ∙ number-cong (s .count) _ (itemsOf n D w) (λ j h. ap (itemsOf n D w) (front j))
+    ∙ ap (λ m. numberWith m (itemsOf n D w)) all
+    ∙ sym (number-short count 64 (itemsOf n D w) (items .few) (λ j h l. none-behind j h l))
   where
     front : (j : ℕ) → k + j ≡ j
     front j = omega arith
 
--- Items
-
--- the byte of an item of word w
-pub item-byte : (n : ℕ) (l : List ℕ) (w k : ℕ) → ValidBytes n l → 64 * w + k < n → getD l (64 * w + k) 0 ≡ bit (itemsOf n (ones l) w k)
-item-byte n l w k v h = rw (lt-ltb (64 * w + k) n h) (byte-bit (getD l (64 * w + k) 0) (v .each (64 * w + k) h))
-
--- past the last there is none
-pub no-item : (n : ℕ) (D : Set) (w k : ℕ) → n ≤ 64 * w + k → itemsOf n D w k ≡ false
-no-item n D w k h = rw (le-ltb (64 * w + k) n h)
+    none-behind : (j : ℕ) → count ≤ j → j < 64 → itemsOf n D w j ≡ false
+    none-behind j h l = no-item n D w j (omega (arith, items .last (omega arith)))

@@ -35,12 +35,12 @@ below-power x r p = quotient (2 ^ r) (pow-pos r) p
 
 module _ (n : ℕ) (words : List ℕ) where
   -- a word that the items fill has none
-  pub full-word : (w : ℕ) → 64 * w + 64 ≤ n → pastLast n words w ≡ false
+  full-word : (w : ℕ) → 64 * w + 64 ≤ n → pastLast n words w ≡ false
   unfolding pastLast
   full-word w h = none-some 64 _ (λ k l. rw (lt-leb n (64 * w + k) (omega arith)))
 
   -- nor has one with nothing above its r items
-  pub nothing-above : (w r : ℕ) → n ≡ 64 * w + r → getD words w 0 / 2 ^ r ≡ 0 → pastLast n words w ≡ false
+  nothing-above : (w r : ℕ) → n ≡ 64 * w + r → getD words w 0 / 2 ^ r ≡ 0 → pastLast n words w ≡ false
   unfolding pastLast
   nothing-above w r split p =
       none-some 64 _ (λ k l.
@@ -50,7 +50,7 @@ module _ (n : ℕ) (words : List ℕ) where
       ])
 
   -- and where there is something above them, it has one
-  pub something-above : (w r : ℕ) → n ≡ 64 * w + r → r ≤ 64 → getD words w 0 < 2 ^ 64 → getD words w 0 / 2 ^ r ≢ 0 → pastLast n words w ≡ true
+  something-above : (w r : ℕ) → n ≡ 64 * w + r → r ≤ 64 → getD words w 0 < 2 ^ 64 → getD words w 0 / 2 ^ r ≢ 0 → pastLast n words w ≡ true
   unfolding pastLast
   something-above w r split few below p =
       not-false-true (someUpTo 64 (λ k. leb n (64 * w + k) && bitOf (getD words w 0) k)) (λ q.

@@ -10,11 +10,10 @@ use native.Mathlib.Omega.{arith}
 use borrow.Author.Tests.{eqb-true, eq-eqb}
 use Rattle.model.specs.declared.refusal.Refusal.{Refusal}
 use Rattle.model.specs.Sums.{orElse}
-use Rattle.model.specs.Board.{Board, Sheet, ValidBytes, sheetOf}
+use Rattle.model.specs.Board.{Board, Sheet, ValidBytes}
 use Rattle.model.specs.Words.{inWords, wordCount, bytesIn, unpackedSheet}
 use Rattle.model.specs.Refusals.{Rule, Test, refusalOf, sized, edgesOf, boardSized, edgeRules, boardRules, bytesSized, byteRules, plainRules, openRules, decodeRefusal}
 use Rattle.model.specs.WordRefusals.{wordsSized, wordRules, packedBoardRules, packedRules, decodePackedRefusal}
-use Rattle.model.specs.WordOutcomes.{sheetIn}
 use Rattle.model.proofs.Xor.{and-left, and-right}
 use Rattle.model.proofs.ListLaws.{bytes-valid}
 use Rattle.board.specs.declared.outcome.Check.{Check}
@@ -33,7 +32,7 @@ in-bytes n words = bytes-valid n (inWords words)
 
 module _ (B : Board) (syndrome loss support correction : List ℕ) where
   abbrev X : Sheet
-  X = sheetIn B syndrome loss
+  X = unpackedSheet B syndrome loss
 
   abbrev m : ℕ
   m = edgesOf (B .ends)
@@ -160,14 +159,3 @@ module _ (B : Board) (syndrome loss support correction : List ℕ) where
       let fit = counts-fit p in
       let w = both-say (B .vertices) m syndrome loss (fit .syndrome-words, fit .loss-words) q in
       record { refused = λ n e. absurd (Option·none-ne-some n e); fitting = λ e. fit; the-rest = λ e. as-unpacked (w .0) (w .1) }
-
--- Theorem: a sheet and its packed words are refused alike, whatever is broken in the board.
-pub plain-refusal : (B : Board) (syndrome loss syndromeWords lossWords support correction : List ℕ)
-    → ValidBytes (B .vertices) syndrome → ValidBytes (edgesOf (B .ends)) loss
-    → WithinWords (B .vertices) syndromeWords → WithinWords (edgesOf (B .ends)) lossWords
-    → bytesIn (B .vertices) syndromeWords ≡ syndrome → bytesIn (edgesOf (B .ends)) lossWords ≡ loss
-    → decodePackedRefusal B syndromeWords lossWords support correction ≡ decodeRefusal (sheetOf B syndrome loss) support correction
-unfolding unpackedSheet
-plain-refusal B syndrome loss syndromeWords lossWords support correction lit-bytes lost-bytes lit lost same-syndrome same-loss =
-    as-unpacked B syndromeWords lossWords support correction lit lost
-    ∙ ap₂ (λ s l. decodeRefusal (sheetOf B s l) support correction) same-syndrome same-loss

@@ -1,23 +1,15 @@
 -- Entries stored in a list one after the other. Assumes nothing.
-use Prim.Native.Nat.{ℕ, suc, _+_, _≤_}
+use Prim.Native.Nat.{ℕ, _+_, _≤_}
 use mathlib.Core.Path.{_≡_, refl, sym, ap, ap₂, _∙_}
 use mathlib.Core.List.{List, [], _∷_, _++_, append-nil}
-use native.Mathlib.Nat.{add-zero, add-suc}
+use native.Mathlib.Nat.{add-zero}
 use native.Mathlib.Numerals.{add-one}
 use native.Mathlib.Omega.{arith}
 use lib.ListN.{length, length-append, set, drop}
 use lib.Seq.{sets, length-sets, sets-eq, drop-length}
 use Rattle.model.specs.Sums.{values}
-use Rattle.model.proofs.ListLaws.{length-values, values-last}
+use Rattle.model.proofs.ListLaws.{values-last, sets-append}
 use Rattle.packed.specs.Storing.{Stored, Storing}
-
-sets-append : (xs ys l : List ℕ) (i : ℕ) → sets (sets l i xs) (i + length xs) ys ≡ sets l i (xs ++ ys)
-sets-append [] ys l i = ap (λ j. sets l j ys) (add-zero i)
-sets-append (x ∷ xs) ys l i =
-    ap (λ j. sets (sets (set l i x) (suc i) xs) j ys) (add-suc i (length xs) ∙ shift (length xs)) ∙ sets-append xs ys (set l i x) (suc i)
-  where
-    shift : (k : ℕ) → suc (i + k) ≡ suc i + k
-    shift k = omega arith
 
 -- nothing is stored
 pub stored-none : (list : List ℕ) (from : ℕ) → Stored [] list from list from

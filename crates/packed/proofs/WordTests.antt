@@ -11,10 +11,9 @@ use lib.Dec.{leb}
 use Rattle.model.specs.declared.refusal.Refusal.the-variants.{VertexCount, EndCount, BufferLength, PastLast}
 use Rattle.model.specs.Sums.{orElse}
 use Rattle.model.specs.Board.{Board, ValidBytes, vertexLimit, edgeLimit}
-use Rattle.model.specs.Words.{wordCount, pastLast}
+use Rattle.model.specs.Words.{wordCount, pastLast, unpackedSheet}
 use Rattle.model.specs.Refusals.{Rule, tested, refusalOf, sized, edgesOf, vertexCountRule, lengthRule, byteRules, openRules}
 use Rattle.model.specs.WordRefusals.{wordRule, wordRules, wordsSized, itemRules, packRefusal, unpackRefusal, litRefusal, packedBoardRules, packedRules, decodePackedRefusal}
-use Rattle.model.specs.WordOutcomes.{sheetIn}
 use Rattle.model.specs.Precedence.{here}
 use Rattle.model.proofs.Xor.{and-left, and-right, not-true-false}
 use Rattle.model.proofs.SumLaws.{first-none}
@@ -29,7 +28,7 @@ pub record WithinWords (n : ℕ) (words : List ℕ) : Type 0 where
   pub none-past : (w : ℕ) → w < length words → pastLast n words w ≡ false
 
 module _ (n : ℕ) (words : List ℕ) where
-  pub words-say : length words ≡ wordCount n → tested (wordRule n words) ≡ none → WithinWords n words
+  words-say : length words ≡ wordCount n → tested (wordRule n words) ≡ none → WithinWords n words
   unfolding wordRule
   words-say long p =
       record {
@@ -40,7 +39,7 @@ module _ (n : ℕ) (words : List ℕ) where
             (here (record { place = w; below = h; breaks = past; shows = refl })));
       }
 
-  pub say-words : WithinWords n words → tested (wordRule n words) ≡ none
+  say-words : WithinWords n words → tested (wordRule n words) ≡ none
   unfolding wordRule
   say-words k = rw (first-none (length words) (pastLast n words) (k .none-past))
 
@@ -99,7 +98,7 @@ module _ (n m : ℕ) (syndrome loss syndromeWords lossWords : List ℕ) where
         loss-words = eqb-true _ _ (and-right (sized syndromeWords (wordCount n)) _ (and-right bytes words fit));
       }
 
-  pub say-items : Items n m syndrome loss syndromeWords lossWords → refusalOf (itemRules n m syndrome loss syndromeWords lossWords) ≡ none
+  say-items : Items n m syndrome loss syndromeWords lossWords → refusalOf (itemRules n m syndrome loss syndromeWords lossWords) ≡ none
   say-items k =
       rw (
         le-leb _ _ (k .some-vertex),
@@ -164,19 +163,16 @@ module _ (n m : ℕ) (syndrome loss syndromeWords lossWords : List ℕ) where
       → unpackRefusal n m syndromeWords lossWords syndrome loss ≡ none
   passes-unpack k = unpack-tests ∙ rw (say-items (k .items)) (say-both (k .syndrome-within) (k .loss-within))
 
--- The lit total and the list of lit vertices: 1 and 3, which say that the count is in range and that words and list have their lengths ..
+-- The lit total and the list of lit vertices: 1 and 3, which say that the count is within its limit and that words and list have their lengths ..
 pub record LitCounted (n : ℕ) (words : List ℕ) (others : Bool) : Type 0 where
-  pub some-vertex : 1 ≤ n
   pub vertex-limit : n ≤ vertexLimit
   pub words-long : length words ≡ wordCount n
   pub fit : others ≡ true
 
 -- .. and 19
 pub record ForLit (n : ℕ) (words : List ℕ) (others : Bool) : Type 0 where
-  pub some-vertex : 1 ≤ n
-  pub vertex-limit : n ≤ vertexLimit
+  pub counted : LitCounted n words others
   pub within : WithinWords n words
-  pub fit : others ≡ true
 
 module _ (n : ℕ) (words : List ℕ) (others : Bool) where
   abbrev pub litCounts : List Rule
@@ -202,7 +198,6 @@ module _ (n : ℕ) (words : List ℕ) (others : Bool) where
       let one = unless-passes (leb 1 n && leb n vertexLimit) VertexCount (e .0) in
       let fit = unless-passes (sized words (wordCount n) && others) BufferLength (e .1 .0) in
       record {
-        some-vertex = leb-true _ _ (and-left (leb 1 n) _ one);
         vertex-limit = leb-true _ _ (and-right (leb 1 n) _ one);
         words-long = lit-words (wordCount n) refl fit;
         fit = and-right (sized words (wordCount n)) others fit;
@@ -212,12 +207,7 @@ module _ (n : ℕ) (words : List ℕ) (others : Bool) where
   lit-passes p =
       let t = neither-fails (refusalOf litCounts) _ (sym lit-tests ∙ p) in
       let k = lit-counts-say (t .0) in
-      record {
-        some-vertex = k .some-vertex;
-        vertex-limit = k .vertex-limit;
-        within = words-say n words (k .words-long) (each-passes (wordRule n words ∷ []) (t .1) .0);
-        fit = k .fit;
-      }
+      record { counted = k; within = words-say n words (k .words-long) (each-passes (wordRule n words ∷ []) (t .1) .0) }
 
 -- Decoding of a packed sheet: 1 to 4 and 6 of the board, then 19, and then 16 and 17
 module _ (B : Board) (syndrome loss support correction : List ℕ) where
@@ -229,6 +219,6 @@ module _ (B : Board) (syndrome loss support correction : List ℕ) where
       refusal-append (packedBoardRules B syndrome loss support correction) (wordRules (B .vertices) syndrome (edgesOf (B .ends)) loss)
 
   pub packed-tests : decodePackedRefusal B syndrome loss support correction
-      ≡ orElse (refusalOf (packedRules B syndrome loss support correction)) (refusalOf (openRules (sheetIn B syndrome loss)))
+      ≡ orElse (refusalOf (packedRules B syndrome loss support correction)) (refusalOf (openRules (unpackedSheet B syndrome loss)))
   unfolding decodePackedRefusal
-  packed-tests = refusal-append (packedRules B syndrome loss support correction) (openRules (sheetIn B syndrome loss))
+  packed-tests = refusal-append (packedRules B syndrome loss support correction) (openRules (unpackedSheet B syndrome loss))

@@ -3,13 +3,12 @@ use Prim.Native.Nat.{ℕ, _≤_}
 use mathlib.Core.Path.{_≡_}
 use mathlib.Core.List.{List}
 use mathlib.Core.Option.{none, some}
-use lib.ListN.{length}
+use lib.ListN.{length, replicate}
 use Rattle.model.specs.declared.refusal.Refusal.{Refusal}
 use Rattle.model.specs.Board.{Board, vertexLimit, edgeLimit}
-use Rattle.model.specs.Words.{wordCount}
+use Rattle.model.specs.Words.{wordCount, unpackedSheet}
 use Rattle.model.specs.Refusals.{edgesOf, decodeRefusal}
 use Rattle.model.specs.WordRefusals.{decodePackedRefusal}
-use Rattle.model.specs.WordOutcomes.{sheetIn}
 use Rattle.board.specs.declared.outcome.Check.{Check}
 use Rattle.board.specs.Checks.{testOf}
 
@@ -25,10 +24,10 @@ pub record Fitting (B : Board) (syndrome loss : List ℕ) : Type 0 where
 pub record Screened (B : Board) (syndrome loss support correction : List ℕ) (r : Check) : Type 0 where
   pub refused : (n : Refusal) → testOf r ≡ some n → decodePackedRefusal B syndrome loss support correction ≡ some n
   pub fitting : testOf r ≡ none → Fitting B syndrome loss
-  pub the-rest : testOf r ≡ none → decodePackedRefusal B syndrome loss support correction ≡ decodeRefusal (sheetIn B syndrome loss) support correction
+  pub the-rest : testOf r ≡ none → decodePackedRefusal B syndrome loss support correction ≡ decodeRefusal (unpackedSheet B syndrome loss) support correction
 
--- buffers for the bytes of a packed sheet
-pub record Unpackable (B : Board) (syndromeWords lossWords syndrome loss : List ℕ) : Type 0 where
-  pub fitting : Fitting B syndromeWords lossWords
-  pub syndrome-long : length syndrome ≡ B .vertices
-  pub loss-long : length loss ≡ edgesOf (B .ends)
+-- buffers for the bytes of a packed sheet, all 0
+pub record Unpackable (B : Board) (lit lost syndrome loss : List ℕ) : Type 0 where
+  pub fitting : Fitting B lit lost
+  pub unlit : syndrome ≡ replicate (B .vertices) 0
+  pub unlost : loss ≡ replicate (edgesOf (B .ends)) 0

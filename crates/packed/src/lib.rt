@@ -13,6 +13,7 @@ use crate::checks::screen;
 use crate::listing::list_bits;
 use crate::listing::set_bits;
 use crate::packing::pack_items;
+use crate::unpacking::unpack_in_zeros;
 use crate::unpacking::unpack_items;
 use board::outcome::Check;
 use decoder::decode;
@@ -22,11 +23,11 @@ use model::answers::Packed;
 use model::answers::Reading;
 use model::limits::EDGES;
 use model::limits::VERTICES;
-ghost use mathlib.Core.Path.{_≡_};
+ghost use Rattle.model.specs.Words.{unpackedSheet};
 ghost use Rattle.model.specs.Board.{boardOf};
 ghost use Rattle.model.specs.Lent.{before, after, boardLent};
 ghost use Rattle.model.specs.WordOutcomes.{Packs, PacksSoundly, Unpacks, UnpacksSoundly, Totals, TotalsSoundly, Lists};
-ghost use Rattle.model.specs.WordOutcomes.{sheetIn, DecodesPacked, DecodesPackedSoundly};
+ghost use Rattle.model.specs.WordOutcomes.{DecodesPacked, DecodesPackedSoundly};
 ghost use Rattle.model.specs.Outcomes.{Decodes};
 ghost use Rattle.packed.specs.Screened.{Unpackable};
 
@@ -80,27 +81,27 @@ pub fn unpack(
 }
 
 // How many vertices of a packed syndrome are lit: the number of set bits in all its words.
-pub fn lit_total(vertices: usize, words: &[u64]) -> Lit
-    ensures outcome { λ r. ⌜ Totals vertices (before words) r ⌝ }
-    ensures sound { λ r. ⌜ TotalsSoundly vertices (before words) r ⌝ }
+pub fn lit_total(vertices: usize, lit: &[u64]) -> Lit
+    ensures outcome { λ r. ⌜ Totals vertices (before lit) r ⌝ }
+    ensures sound { λ r. ⌜ TotalsSoundly vertices (before lit) r ⌝ }
 {
-    if let Check::Failed(refusal) = check_lit(vertices, words, true) {
+    if let Check::Failed(refusal) = check_lit(vertices, lit, true) {
         return Lit::Refused(refusal);
     }
-    Lit::Total(set_bits(words))
+    Lit::Total(set_bits(lit))
 }
 
 // The lit vertices of a packed syndrome, rising, at the front of a list with an entry for each vertex: their total. The rest of the list
 // stays; a refusal writes nothing.
-pub fn list_lit(vertices: usize, words: &[u64], list: &mut [u16]) -> Lit
-    ensures outcome { λ r. ⌜ Lists vertices (before words) (before list) r (after list) ⌝ }
-    ensures sound { λ r. ⌜ TotalsSoundly vertices (before words) r ⌝ }
+pub fn list_lit(vertices: usize, lit: &[u64], list: &mut [u16]) -> Lit
+    ensures outcome { λ r. ⌜ Lists vertices (before lit) (before list) r (after list) ⌝ }
+    ensures sound { λ r. ⌜ TotalsSoundly vertices (before lit) r ⌝ }
 {
     let sized = list.len() == vertices;
-    if let Check::Failed(refusal) = check_lit(vertices, words, sized) {
+    if let Check::Failed(refusal) = check_lit(vertices, lit, sized) {
         return Lit::Refused(refusal);
     }
-    Lit::Total(list_bits(words, list))
+    Lit::Total(list_bits(lit, list))
 }
 
 // The key of a packed sheet, as `decode` gives that of its bytes.
@@ -150,7 +151,7 @@ pub fn decode_packed(
     )
 }
 
-// Decodes the bytes of a packed sheet, which are unpacked into buffers of the right lengths.
+// Decodes the bytes of a packed sheet, which are unpacked into buffers of zeros.
 fn unpack_and_decode(
     vertices: usize,
     ends: &[u16],
@@ -166,11 +167,11 @@ fn unpack_and_decode(
     requires { ⌜ Unpackable (boardOf vertices (now ends) (now marks) (now opened)) (now lit) (now lost)
         (now syndrome) (now loss) ⌝ }
     ensures { λ r.
-        ⌜ Decodes (sheetIn (boardLent vertices ends marks opened) (before lit) (before lost))
+        ⌜ Decodes (unpackedSheet (boardLent vertices ends marks opened) (before lit) (before lost))
         (before support) (before correction) r (after support) (after correction) ⌝ }
 {
-    unpack_items(lit, syndrome);
-    unpack_items(lost, loss);
+    unpack_in_zeros(lit, syndrome);
+    unpack_in_zeros(lost, loss);
     decode(
         vertices,
         ends,

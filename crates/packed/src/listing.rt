@@ -1,5 +1,5 @@
 // The lit vertices of a packed syndrome: how many there are, and which.
-use model::limits::WORD;
+use crate::words::WORD;
 ghost use mathlib.Core.Path.{_≡_};
 ghost use Prim.Native.Nat.{_+_, _*_, _≤_};
 ghost use lib.ListN.{length};

@@ -19,7 +19,6 @@ use Rattle.model.specs.Text.{textOf}
 use Rattle.model.specs.TextOutcomes.{Buffers, textLimit, textRule, readRefusal, writeRefusal}
 use Rattle.model.specs.Words.{wordCount, pastLast, unpackedSheet}
 use Rattle.model.specs.WordRefusals.{wordRule, wordRules, wordsSized, itemRules, packRefusal, unpackRefusal, litRefusal, decodePackedRefusal}
-use Rattle.model.specs.WordOutcomes.{sheetIn}
 use Rattle.model.proofs.Places.{PlaceBelow, EachBelow, wider, unless-below, at-below, first-below, else-below, rules-below}
 use Rattle.model.proofs.RuleLists.{unless-passes, refusal-append}
 use Rattle.theory.proofs.SmallestOdd.{smallest-odd-exactly}
@@ -266,7 +265,7 @@ pub decode-packed-small : (B : Board) (syndrome loss support correction : List �
     → Small (decodePackedRefusal B syndrome loss support correction)
 unfolding unpackedSheet
 decode-packed-small B syndrome loss support correction =
-    let X = sheetIn B syndrome loss in
+    let X = unpackedSheet B syndrome loss in
     rw (packed-tests B syndrome loss support correction, before-open-tests B syndrome loss support correction)
     (else-below _ _
     (else-below _ _ (board-small B _) (λ p.

@@ -37,9 +37,9 @@ use Rattle.model.specs.StackOutcomes.{stackAnswer}
 use Rattle.model.specs.FacesOutcomes.{torusSheet, facesAnswer}
 use Rattle.model.specs.Text.{Read, complete, refused, textOf, readText}
 use Rattle.model.specs.TextOutcomes.{Buffers, textLimit, readRefusal, readOutcome, counts, writeRefusal, writeAnswer}
-use Rattle.model.specs.Words.{inWords, wordCount, litTotal}
+use Rattle.model.specs.Words.{inWords, wordCount, litTotal, unpackedSheet}
 use Rattle.model.specs.WordRefusals.{packRefusal, unpackRefusal, litRefusal, decodePackedRefusal}
-use Rattle.model.specs.WordOutcomes.{packAnswer, unpackAnswer, litAnswer, listAnswer, sheetIn, decodePackedAnswer}
+use Rattle.model.specs.WordOutcomes.{packAnswer, unpackAnswer, litAnswer, listAnswer, decodePackedAnswer}
 use Rattle.model.specs.Packing.{packedDecoded, packedRounds, packedVerdict, packedDistance, packedBuilt, packedReading, packedWritten, packedWords, packedLit, unpackedDecoded, unpackedRounds, verdictWith, unpackedVerdict, distanceWith, unpackedDistance, unpackedBuilt, unpackedReading, unpackedWritten, unpackedWords, unpackedLit}
 use Rattle.model.proofs.SumLaws.{count-bound}
 use Rattle.model.proofs.Packing.{unpacked-values, unpacked-refusal}
@@ -101,7 +101,7 @@ pub decode-packed-returned : (B : Board) (syndrome loss support correction : Lis
     ≡ decodePackedAnswer B syndrome loss support correction
 unfolding decodePackedAnswer
 decode-packed-returned B syndrome loss support correction =
-    let X = sheetIn B syndrome loss in
+    let X = unpackedSheet B syndrome loss in
     back packedDecoded unpackedDecoded (decodePackedRefusal B syndrome loss support correction) decode-refusal
     (roomy (decode-packed-small B syndrome loss support correction))
     (λ p. key-returned X (decode-passes X support correction (packed-passes B syndrome loss support correction p) .sheet .board))

@@ -12,14 +12,8 @@ use lib.Seq.{sets, length-sets}
 use Rattle.model.specs.Sums.{Set, ones}
 use Rattle.model.specs.Board.{Sheet, edges, isOpen}
 use Rattle.model.specs.Text.{letterV, letterO, letterS, letterX, decimal}
+use Rattle.model.proofs.ListLaws.{sets-append}
 use Rattle.text.specs.Printing.{Puts, numberBytes, edgeBytes, placeBytes, edgesBytes, listedBytes, sheetBytes}
-
--- what is put behind what was put
-sets-append : (xs ys l : List ℕ) (i : ℕ) → sets (sets l i xs) (i + length xs) ys ≡ sets l i (xs ++ ys)
-sets-append [] ys l i = rw (add-zero i)
-sets-append (x ∷ xs) ys l i =
-    ap (λ k. sets (sets (set l i x) (suc i) xs) k ys) {x = i + suc (length xs)} {y = suc i + length xs} (omega arith)
-    ∙ sets-append xs ys (set l i x) (suc i)
 
 module _ {xs l l′ : List ℕ} {i j : ℕ} (first : Puts xs l i j l′) where
   pub then : {ys l″ : List ℕ} {k : ℕ} → Puts ys l′ j k l″ → Puts (xs ++ ys) l i k l″

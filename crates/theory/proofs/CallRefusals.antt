@@ -34,9 +34,9 @@ use Rattle.model.specs.FacesOutcomes.{torusSheet, facesAnswer}
 use Rattle.model.specs.Distance.{fewest}
 use Rattle.model.specs.Text.{refused, readText}
 use Rattle.model.specs.TextOutcomes.{Buffers, readRules, readRefusal, readOutcome, counts, writeRules, writeRefusal}
-use Rattle.model.specs.Words.{wordCount, litTotal}
+use Rattle.model.specs.Words.{wordCount, unpackedSheet, litTotal}
 use Rattle.model.specs.WordRefusals.{packRules, packRefusal, unpackRules, unpackRefusal, litRules, litRefusal, decodePackedRules, decodePackedRefusal}
-use Rattle.model.specs.WordOutcomes.{packAnswer, litAnswer, listAnswer, sheetIn, decodePackedAnswer}
+use Rattle.model.specs.WordOutcomes.{packAnswer, litAnswer, listAnswer, decodePackedAnswer}
 use Rattle.model.specs.Precedence.{Applies, here, there, NoneApplies, Decides, Smallest, AnswersSmallest}
 use Rattle.model.proofs.Contradiction.{zero-one}
 use Rattle.model.proofs.Xor.{and-left, and-right, not-false-true}
@@ -284,4 +284,4 @@ pub decode-packed-last : (B : Board) (syndrome loss support correction : List �
 unfolding decodePackedAnswer decodePackedRefusal
 decode-packed-last B syndrome loss support correction v =
     other-number (decode-packed-numbers B syndrome loss support correction) (noneAt v) refl decoded.Refused
-    (keyOrNone (sheetIn B syndrome loss)) (λ q e. cc)
+    (keyOrNone (unpackedSheet B syndrome loss)) (λ q e. cc)

@@ -11,6 +11,15 @@ pub const EDGES: usize = 4096;
 /// The largest number of bytes of a text that is read or written.
 pub const TEXT: usize = 65_536;
 
+/// How many items, vertices or edges, a word has bits for.
+pub(crate) const WORD: usize = 64;
+
+/// The largest number of words of a packed syndrome: those that [`VERTICES`] vertices fill.
+pub const SYNDROME_WORDS: usize = VERTICES / WORD;
+
+/// The largest number of words of a packed loss: those that [`EDGES`] edges fill.
+pub const LOSS_WORDS: usize = EDGES / WORD;
+
 /// A graph with numbered vertices and edges.
 #[derive(Clone, Copy, Debug, PartialEq, Eq)]
 pub struct Board<'a> {
@@ -39,14 +48,15 @@ pub struct Sheet<'a> {
 }
 
 /// A board with its syndrome and its lost edges, each packed into words: item i, a vertex or an edge,
-/// is bit i % 64 of word i / 64. So many items fill a word for each 64 of them, and one more for the
-/// rest; no bit past the last item is set.
+/// is bit i % 64 of word i / 64. So many items fill a word for each 64 of them, and one more where some
+/// are left; no bit past the last item is set.
 #[derive(Clone, Copy, Debug, PartialEq, Eq)]
 pub struct PackedSheet<'a> {
     /// The board that was drawn.
     pub board: Board<'a>,
-    /// A bit for each vertex, 1 where it is in the syndrome, else 0; 0 at each open vertex.
+    /// A bit for each vertex, 1 where it is in the syndrome, else 0; 0 at each open vertex. At most
+    /// [`SYNDROME_WORDS`].
     pub syndrome: &'a [u64],
-    /// A bit for each edge, 1 where it is lost, else 0.
+    /// A bit for each edge, 1 where it is lost, else 0. At most [`LOSS_WORDS`].
     pub loss: &'a [u64],
 }

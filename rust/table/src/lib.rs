@@ -37,7 +37,7 @@ mod exported;
 mod refusal;
 mod returned;
 
-pub use board::{Board, EDGES, PackedSheet, Sheet, TEXT, VERTICES};
+pub use board::{Board, EDGES, LOSS_WORDS, PackedSheet, SYNDROME_WORDS, Sheet, TEXT, VERTICES};
 pub use calls::{Counts, Key, RoundsKey, Verdict, WordCounts};
 pub use calls::{decode, decode_packed, decode_rounds, distance, faces, verdict};
 pub use calls::{list_lit, lit_total, pack, planar, read, stack, torus, unpack, write};

@@ -3,7 +3,7 @@
 use core::error::Error;
 use core::fmt;
 
-use crate::{EDGES, TEXT, VERTICES};
+use crate::{EDGES, LOSS_WORDS, TEXT, VERTICES};
 
 /// The rule that is broken, with the place where it is broken.
 ///
@@ -125,7 +125,7 @@ impl Refusal {
         let at = usize::try_from(place).ok()?;
         let edge = (at < EDGES).then_some(at);
         let vertex = (at < VERTICES).then_some(at);
-        let word = (at < EDGES.div_ceil(64)).then_some(at);
+        let word = (at < LOSS_WORDS).then_some(at);
         let refusal = match number {
             1 => Refusal::VertexCount,
             2 => Refusal::EndCount,
@@ -155,7 +155,9 @@ impl fmt::Display for Refusal {
     fn fmt(&self, to: &mut fmt::Formatter<'_>) -> fmt::Result {
         match self {
             Refusal::VertexCount => write!(to, "the vertex count is 0 or above 1,024"),
-            Refusal::EndCount => write!(to, "the count of ends is odd or above 8,192, or that of edges above 4,096"),
+            Refusal::EndCount => {
+                write!(to, "the count of ends is odd or above 8,192, or that of edges above 4,096")
+            }
             Refusal::BufferLength => write!(to, "a lent buffer has the wrong length"),
             Refusal::EndRange(edge) => {
                 write!(to, "edge {edge} has an end at or above the vertex count")

@@ -5,7 +5,7 @@
 
 use std::fmt::Debug;
 
-use reference::Board;
+use reference::board::{Board, Sheet};
 use reference::packed::{
     PackedSheet, decode_packed_into, list_lit_into, lit_total as plain_total, pack_into,
     unpack_into, words_of,
@@ -18,7 +18,6 @@ use crate::guarded::Guarded;
 use crate::lent::{
     BYTE_GUARD, END_GUARD, LentPackedSheet, WORD_GUARD, end_noise, noise, word_noise,
 };
-use crate::refused::blank;
 
 /// The words of a syndrome and of losses.
 pub type Words = (Vec<u64>, Vec<u64>);
@@ -239,5 +238,5 @@ pub fn decode_packed(sheet: &PackedSheet) -> Result<Key, Refusal> {
 /// nothing lost.
 pub fn blank_path(vertices: usize, edges: usize) -> PackedSheet {
     let path: Vec<_> = (0..edges as u16).map(|at| (at, at + 1, 0)).collect();
-    PackedSheet::new(&blank(Board::new(vertices, &path)))
+    PackedSheet::new(&Sheet::new(Board::new(vertices, &path), &[], &[]))
 }

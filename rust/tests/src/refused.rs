@@ -3,9 +3,10 @@
 use std::fmt::Debug;
 
 use reference::board::{Board, Sheet};
+use reference::packed::PackedSheet;
 use table::Refusal;
 
-use crate::agrees;
+use crate::{agrees, packed};
 
 /// The number and the place of a refusal.
 pub fn refused<T: Debug>(answer: Result<T, Refusal>) -> (u8, u64) {
@@ -18,12 +19,27 @@ pub fn judged(sheet: &Sheet, handed: &[u8]) -> (u8, u64) {
     refused(agrees::verdict(sheet, handed))
 }
 
-/// All four calls that are lent a sheet refuse it alike.
+/// Whether the sheet breaks this rule packed too. A byte above 1 has no bit, and a wrong number of bytes
+/// may fill the right number of words.
+fn broken_packed(sheet: &Sheet, number: u8) -> bool {
+    let Sheet { board, syndrome, loss } = sheet;
+    match number {
+        3 => syndrome.len() == board.vertices && loss.len() == board.edges(),
+        7 | 8 => false,
+        _ => true,
+    }
+}
+
+/// All four calls that are lent a sheet refuse it alike, and the one that is lent a packed sheet too,
+/// where packing leaves the rule broken.
 pub fn sheet_refused(sheet: &Sheet) -> (u8, u64) {
     let refusal = refused(agrees::decode(sheet));
     assert_eq!(refused(agrees::decode_rounds(sheet)), refusal);
     assert_eq!(judged(sheet, &vec![0; sheet.board.edges()]), refusal);
     assert_eq!(refused(agrees::write(sheet)), refusal);
+    if broken_packed(sheet, refusal.0) {
+        assert_eq!(refused(packed::decode_packed(&PackedSheet::new(sheet))), refusal);
+    }
     refusal
 }
 
@@ -34,10 +50,11 @@ pub fn board_refused(sheet: &Sheet) -> (u8, u64) {
     refusal
 }
 
-/// None of the five calls refuses.
+/// None of the six calls refuses.
 pub fn none_refuses(sheet: &Sheet) {
     agrees::decode(sheet).expect("decoding");
     agrees::decode_rounds(sheet).expect("decoding in rounds");
+    packed::decode_packed(&PackedSheet::new(sheet)).expect("decoding packed");
     assert!(agrees::verdict(sheet, &vec![0; sheet.board.edges()]).is_ok(), "the verdict");
     agrees::distance(&sheet.board).expect("distance");
     agrees::write(sheet).expect("writing");

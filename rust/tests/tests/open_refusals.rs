@@ -25,7 +25,8 @@ fn number_16() {
     assert_eq!(board_refused(&limit), (16, 1023));
 }
 
-/// 17 in all calls that are lent a syndrome, at every vertex and at the smallest of several.
+/// 17 in all calls that are lent a board with its syndrome, at every vertex and at the smallest of
+/// several.
 #[test]
 fn number_17() {
     for place in 0..6 {

@@ -64,7 +64,7 @@ fn every_pair_of_counts() {
     }
 }
 
-/// Every count of vertices, and every fourth one of edges.
+/// Every count of vertices, and one of each four counts of edges.
 #[test]
 fn every_count() {
     let mut random = Random::new(402);

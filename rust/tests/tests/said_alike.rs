@@ -1,7 +1,7 @@
 //! The C header, the page of rules and the Rust crate say the same: limits, numbers, and a sentence
 //! for each number. The numbers are those of the Rattle source.
 
-use table::{EDGES, Refusal, TEXT, VERTICES};
+use table::{EDGES, LOSS_WORDS, Refusal, SYNDROME_WORDS, TEXT, VERTICES};
 
 const HEADER: &str = include_str!("../../../include/surface_table.h");
 const RULES: &str = include_str!("../../../docs/RULES.md");
@@ -38,6 +38,12 @@ const KINDS: [&str; 5] = ["vertex", "edge", "side", "line", "word"];
 /// What the header has between `start`, with which a line begins, and the next of `ends`.
 fn between(start: &str, ends: &[char]) -> Option<&'static str> {
     HEADER.lines().find_map(|line| line.trim().strip_prefix(start)?.split(ends).next())
+}
+
+/// The header's sentence for a name, on the line of its case or on the next one.
+fn sentence_in_header(name: &str) -> Option<&'static str> {
+    let (_, after) = HEADER.split_once(&format!("case {name}:"))?;
+    after.trim_start().strip_prefix("return \"")?.split('"').next()
 }
 
 /// The name of a refusal's case.
@@ -82,6 +88,14 @@ fn limits() {
         let header = between(&format!("#define SURFACE_{name} "), &[' ']);
         assert_eq!(header, Some(limit.to_string().as_str()), "{name}");
     }
+    for (name, words, items, limit) in [
+        ("SYNDROME_WORDS", SYNDROME_WORDS, "VERTICES", VERTICES),
+        ("LOSS_WORDS", LOSS_WORDS, "EDGES", EDGES),
+    ] {
+        let header = between(&format!("#define SURFACE_{name} "), &[]);
+        assert_eq!(header, Some(format!("(SURFACE_{items} / 64)").as_str()), "{name}");
+        assert_eq!(words, limit / 64, "{name}");
+    }
 }
 
 /// The cases with their numbers, as the source's function `number` lists them.
@@ -103,8 +117,7 @@ fn numbers_and_sentences_of_the_header() {
         let name = name_of(refusal);
         let number = between(&format!("{name} = "), &[',', ' ']);
         assert_eq!(number, Some(refusal.number().to_string().as_str()), "{name}");
-        let sentence = between(&format!("case {name}: return \""), &['"']);
-        assert_eq!(sentence, Some(sentence_of(refusal).as_str()), "{name}");
+        assert_eq!(sentence_in_header(&name), Some(sentence_of(refusal).as_str()), "{name}");
     }
     let names = HEADER.lines().filter(|line| line.trim().starts_with("SURFACE_REFUSED_"));
     assert_eq!(names.count(), REFUSALS.len(), "the header has a name that no refusal has");

@@ -20,7 +20,7 @@ returns : tie.Need-returns
 returns c =
     let tested = c .before .before .before in
     let a = tested .before .before .before .args in
-    list-refused (a .vertices) (now (a .words)) (now (a .list)) _ (sym (tested .check-lit .ensures) ∙ ap testOf (c .before .refusal .given .1))
+    list-refused (a .vertices) (now (a .lit)) (now (a .list)) _ (sym (tested .check-lit .ensures) ∙ ap testOf (c .before .refusal .given .1))
 
 enum-told : tie.Need-enum-told
 enum-told c = search needs
@@ -31,8 +31,8 @@ list-bits-requires c κs =
     let tested = told .before .before in
     let a = tested .before .before .before .args in
     let none = passed _ _ (tested .check-lit .ensures) (told .enum-told .given .1) in
-    let lit = lit-passes (a .vertices) (now (a .words)) _ none in
-    (omega (arith, lit .within .count, lit .vertex-limit), list-room (a .vertices) (now (a .words)) (now (a .list)) none)
+    let lit = lit-passes (a .vertices) (now (a .lit)) _ none in
+    (omega (arith, lit .within .count, lit .counted .vertex-limit), list-room (a .vertices) (now (a .lit)) (now (a .list)) none)
 
 same-length : tie.Need-same-length
 same-length c = search needs
@@ -43,7 +43,7 @@ returns-2 c =
     let told = listed .before .before in
     let tested = told .before .before in
     let a = tested .before .before .before .args in
-    list-filled (a .vertices) (now (a .words)) (now (a .list)) _ _ (passed _ _ (tested .check-lit .ensures) (told .enum-told .given .1)) (listed .list-bits .ensures)
+    list-filled (a .vertices) (now (a .lit)) (now (a .list)) _ _ (passed _ _ (tested .check-lit .ensures) (told .enum-told .given .1)) (listed .list-bits .ensures)
 
 pub list-lit-spec : {M : Type 1} → statement M
 list-lit-spec =

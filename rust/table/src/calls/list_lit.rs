@@ -7,8 +7,8 @@ use crate::exported::call;
 /// Lists the lit vertices of a packed syndrome: writes them, rising, to the front of a list, leaves the
 /// rest of it as it was, and answers with how many there are. Vertex v is bit v % 64 of word v / 64.
 ///
-/// It is lent exactly as many words as so many vertices fill, one for each 64 and one more for the
-/// rest, and a list of exactly one entry for each vertex.
+/// It is lent exactly as many words as so many vertices fill, one for each 64 of them and one more
+/// where some are left, and a list of exactly one entry for each vertex.
 ///
 /// # Errors
 ///

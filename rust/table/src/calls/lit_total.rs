@@ -8,8 +8,8 @@ use crate::returned::{impossible, values};
 /// The number of lit vertices of a packed syndrome: of the set bits in all its words. Vertex v is bit
 /// v % 64 of word v / 64.
 ///
-/// It is lent exactly as many words as so many vertices fill: one for each 64, and one more for the
-/// rest.
+/// It is lent exactly as many words as so many vertices fill: one for each 64 of them, and one more
+/// where some are left.
 ///
 /// # Errors
 ///

@@ -2,10 +2,11 @@
 
 use super::words::counted;
 use crate::Refusal;
+use crate::board::WORD;
 use crate::exported::call;
 use crate::returned::{impossible, values};
 
-/// How many words [`pack`] wrote: one for each 64 items, and one more for the rest.
+/// How many words [`pack`] wrote: one for each 64 items, and one more where some are left.
 #[derive(Clone, Copy, Debug, PartialEq, Eq)]
 #[must_use]
 pub struct WordCounts {
@@ -19,8 +20,8 @@ pub struct WordCounts {
 /// Bits past the last item are written 0.
 ///
 /// It is lent exactly a syndrome byte for each vertex and a loss byte for each edge, each 0 or 1, and
-/// as many words as so many vertices and edges fill: one for each 64 of them, and one more for the
-/// rest. [`unpack`](crate::unpack) gives the bytes back.
+/// as many words as so many vertices and edges fill: one for each 64 of them, and one more where some
+/// are left. [`unpack`](crate::unpack) gives the bytes back.
 ///
 /// # Errors
 ///
@@ -81,7 +82,7 @@ fn refuses(refusal: Refusal, vertices: usize, edges: usize) -> bool {
 fn returned_words(returned: u64, vertices: usize, edges: usize) -> Result<WordCounts, Refusal> {
     match (values(returned, &[1, 2, 3, 7, 8]), counted(vertices, edges)) {
         (Ok((syndrome, loss)), Ok(()))
-            if syndrome == vertices.div_ceil(64) && loss == edges.div_ceil(64) =>
+            if syndrome == vertices.div_ceil(WORD) && loss == edges.div_ceil(WORD) =>
         {
             Ok(WordCounts { syndrome, loss })
         }

@@ -9,8 +9,8 @@ use crate::{Counts, Refusal};
 /// byte for each edge, 0 or 1. Item i, a vertex or an edge, is bit i % 64 of word i / 64.
 ///
 /// It is lent exactly as many words as so many vertices and edges fill, one for each 64 of them and one
-/// more for the rest, and as many bytes as there are vertices and edges. It answers with these two
-/// counts. [`pack`](crate::pack) gives the words back.
+/// more where some are left, and as many bytes as there are vertices and edges. It answers with these
+/// two counts. [`pack`](crate::pack) gives the words back.
 ///
 /// # Errors
 ///

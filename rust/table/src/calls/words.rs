@@ -1,5 +1,6 @@
 //! What the calls of packed sheets may answer for the counts that they are lent.
 
+use crate::board::WORD;
 use crate::{EDGES, Refusal, VERTICES};
 
 /// Number 1 or 2 where no board has so many vertices or edges: a call of packed sheets refuses by it
@@ -17,7 +18,7 @@ pub(super) fn counted(vertices: usize, edges: usize) -> Result<(), Refusal> {
 /// Whether this word of so many items can have a bit past the last of them: it is their last word, and
 /// they don't fill it.
 pub(super) fn has_rest(word: usize, items: usize) -> bool {
-    word == items / 64 && !items.is_multiple_of(64)
+    word == items / WORD && !items.is_multiple_of(WORD)
 }
 
 #[cfg(test)]

@@ -1,8 +1,5 @@
 -- `packed::packing::packed_word` meets its contract. The loop's invariant: `word` has the bits from place k on. Assumes nothing.
-use Prim.Native.Nat.{ℕ, _+_, _-_, _*_, _^_, _≤_, _<_}
-use mathlib.Core.Path.{_≡_}
-use mathlib.Core.Bool.{false}
-use mathlib.Core.Logic.{⊎-elim}
+use Prim.Native.Nat.{_+_, _-_, _*_, _^_, _≤_, _<_}
 use native.Mathlib.Omega.{arith}
 use borrow.Author.Needs.{needs}
 use denote.Ref.{now}
@@ -10,62 +7,38 @@ use lib.ListN.{length, getD}
 use Rattle.model.specs.Sums.{ones}
 use Rattle.model.specs.Words.{itemsOf}
 use Rattle.packed.specs.Packing.{PackedFrom}
-use Rattle.packed.proofs.PackedWords.{packed-none, packed-more, packed-room, packed-all, item-byte, no-item}
+use Rattle.packed.proofs.PackedWords.{packed-none, packed-more, packed-room, packed-all, item-byte}
 use Rattle.packed.proofs.packing.packed_word.Statement.{statement}
 use Rattle.packed.proofs.packing.packed_word.Tie as tie
 
 abbrev Inv-loop : tie.InvT-loop
-Inv-loop bytes w first rest k₀ word₀ k word = (k ≤ k₀) × PackedFrom (itemsOf (length bytes) (ones bytes) w) k₀ k word
+Inv-loop bytes w first k₀ word₀ k word = (k ≤ k₀) × PackedFrom (itemsOf (length bytes) (ones bytes) w) k₀ k word
 
 abbrev μ-loop : tie.MeasureT-loop
-μ-loop bytes w first rest k₀ word₀ k word = k
-
--- the items of the word: 64, or as many as are left
-few : (c : tie.Joined1 Inv-loop μ-loop) → c .if1 .k ≤ 64
-few c = ⊎-elim (λ w. omega (arith, w .1, w .0 .taken)) (λ w. omega (arith, w .1)) (c .if1 .came)
-
-within : (c : tie.Joined1 Inv-loop μ-loop) → 64 * c .before .args .w + c .if1 .k ≤ length (now (c .before .args .bytes))
-within c =
-    let start = c .before in
-    ⊎-elim
-    (λ w. omega (arith, w .1, start .pre .1))
-    (λ w. omega (arith, w .1, w .0 .left, start .pre .1))
-    (c .if1 .came)
-
--- behind them there is none
-none-behind : (c : tie.Joined1 Inv-loop μ-loop) (k : ℕ) → c .if1 .k ≤ k → k < 64 →
-    let a = c .before .args in
-    itemsOf (length (now (a .bytes))) (ones (now (a .bytes))) (a .w) k ≡ false
-none-behind c k h l =
-    let start = c .before in
-    ⊎-elim
-    (λ w. no-item (length (now (start .args .bytes))) (ones (now (start .args .bytes))) (start .args .w) k (omega (arith, w .1, start .pre .1)))
-    (λ w. absurd (beyond (omega (arith, w .1))))
-    (c .if1 .came)
-  where
-    beyond : 64 ≤ k → ⊥
-    beyond m = omega arith
+μ-loop bytes w first k₀ word₀ k word = k
 
 -- the next item is there, and its byte is 0 or 1
 inside : (c : tie.In-loop Inv-loop μ-loop) →
-    let a = c .before .before .before .args in
+    let a = c .before .before .before .before .args in
     64 * a .w + (c .before .loop .k - 1) < length (now (a .bytes))
-inside c = omega (arith, within (c .before .before), c .before .loop .inv .0, c .loop-test .taken)
+inside c =
+    let at = c .before in
+    omega (arith, at .before .items-in .ensures .within, at .loop .inv .0, c .loop-test .taken)
 
 byte : (c : tie.In-loop Inv-loop μ-loop) →
-    let a = c .before .before .before .args in
+    let a = c .before .before .before .before .args in
     getD (now (a .bytes)) (64 * a .w + (c .before .loop .k - 1)) 0 ≤ 1
-byte c = c .before .before .before .pre .0 .each _ (inside c)
+byte c = c .before .before .before .before .pre .0 .each _ (inside c)
 
 -- a 64-bit word has room for its bit
 room : (c : tie.In-loop Inv-loop μ-loop) → 2 * c .before .loop .word + 1 < 2 ^ 64
-room c = packed-room (c .loop-test .taken) (few (c .before .before)) (c .before .loop .inv .1)
+room c = packed-room (c .loop-test .taken) (c .before .before .items-in .ensures .few) (c .before .loop .inv .1)
 
 mul-first : tie.Need-mul-first Inv-loop μ-loop
-mul-first c = omega (arith, c .pre .1)
+mul-first c = omega (arith, c .before .pre .1)
 
-sub-rest : tie.Need-sub-rest Inv-loop μ-loop
-sub-rest c = omega (arith, c .pre .1)
+items-in-requires : tie.Need-items-in-requires Inv-loop μ-loop
+items-in-requires c κs = search needs
 
 loop-holds : tie.Need-loop-holds Inv-loop μ-loop
 loop-holds c = (omega arith, packed-none _ _)
@@ -74,28 +47,28 @@ sub-k : tie.Need-sub-k Inv-loop μ-loop
 sub-k c = search needs
 
 mul-word : tie.Need-mul-word Inv-loop μ-loop
-mul-word c = record { fits = omega (arith, room (c .before)) }
+mul-word c = record { fits = omega (arith, room c) }
 
 add-word : tie.Need-add-word Inv-loop μ-loop
-add-word c = let there = inside (c .before) in search needs
+add-word c = let there = inside c in search needs
 
 shared-slice-read-word : tie.Need-shared-slice-read-word Inv-loop μ-loop
-shared-slice-read-word c = inside (c .before .before)
+shared-slice-read-word c = inside (c .before)
 
 cast-word : tie.Need-cast-word Inv-loop μ-loop
-cast-word c = record { fits = omega (arith, byte (c .before .before)) }
+cast-word c = record { fits = omega (arith, byte (c .before)) }
 
 add-word-2 : tie.Need-add-word-2 Inv-loop μ-loop
-add-word-2 c = record { fits = omega (arith, room (c .before .before), byte (c .before .before)) }
+add-word-2 c = record { fits = omega (arith, room (c .before), byte (c .before)) }
 
 loop-less : tie.Need-loop-less Inv-loop μ-loop
 loop-less c = search needs
 
 loop-again : tie.Need-loop-again Inv-loop μ-loop
 loop-again c =
-    let turn = c .before .before in
+    let turn = c .before in
     let at = turn .before .loop in
-    let start = turn .before .before .before in (
+    let start = turn .before .before .before .before in (
       omega (arith, at .inv .0),
       packed-more (turn .loop-test .taken) (item-byte _ _ (start .args .w) _ (start .pre .0) (inside turn)) (at .inv .1),
     )
@@ -103,7 +76,8 @@ loop-again c =
 returns : tie.Need-returns Inv-loop μ-loop
 returns c =
     let at = c .before in
-    packed-all (few (at .before)) (none-behind (at .before)) (omega (arith, c .loop-test .left)) (at .loop .inv .1)
+    let a = at .before .before .before .args in
+    packed-all (length (now (a .bytes))) (ones (now (a .bytes))) (a .w) (at .before .items-in .ensures) (omega (arith, c .loop-test .left)) (at .loop .inv .1)
 
 pub packed-word-spec : {M : Type 1} → statement M
 packed-word-spec =
@@ -112,7 +86,7 @@ packed-word-spec =
     Inv-loop
     μ-loop
     mul-first
-    sub-rest
+    items-in-requires
     loop-holds
     sub-k
     mul-word

@@ -1,72 +1,53 @@
--- `packed::unpacking::unpack_items` meets its contract. The loop's invariant: the bytes of the first i items are stored. Assumes nothing.
-use Prim.Native.Nat.{_+_, _-_, _^_, _≤_, _<_}
-use mathlib.Core.Path.{_≡_, ap, _∙_}
+-- `packed::unpacking::unpack_items` meets its contract. The loop's invariant: the items of the first w words are unpacked. Assumes nothing.
+use Prim.Native.Nat.{_-_, _≤_}
 use native.Mathlib.Omega.{arith}
 use borrow.Author.Needs.{needs}
-use denote.Ref.{now}
-use lib.ListN.{length, length-set}
-use Rattle.model.specs.Sums.{bit, values}
-use Rattle.model.specs.Words.{inWords, bytesIn}
-use Rattle.model.proofs.ListLaws.{length-values}
-use Rattle.packed.specs.Storing.{Stored}
-use Rattle.packed.proofs.BitLaws.{bit-is}
-use Rattle.packed.proofs.StoringLaws.{stored-none, stored-long, stored-value, stored-all}
+use lib.ListN.{length}
+use Rattle.packed.specs.Unpacking.{ItemsUnpacked}
+use Rattle.packed.proofs.UnpackedWords.{items-none, items-more, items-all}
 use Rattle.packed.proofs.unpacking.unpack_items.Statement.{statement}
 use Rattle.packed.proofs.unpacking.unpack_items.Tie as tie
 
 abbrev Inv-loop : tie.InvT-loop
-Inv-loop words bytes₀ i₀ bytes i = (i ≤ length bytes) × Stored (values i (λ j. bit (inWords words j))) bytes₀ 0 bytes i
+Inv-loop words bytes₀ w₀ bytes w = (w ≤ length words) × ItemsUnpacked words w bytes₀ bytes
 
 abbrev μ-loop : tie.MeasureT-loop
-μ-loop words bytes₀ i₀ bytes i = length bytes - i
+μ-loop words bytes₀ w₀ bytes w = length words - w
 
 loop-holds : tie.Need-loop-holds Inv-loop μ-loop
-unfolding values
-loop-holds c = (search needs, stored-none _ 0)
+loop-holds c = (search needs, items-none _ _)
 
--- an item is below a length that fits
-small : (c : tie.In-loop Inv-loop μ-loop) → c .before .loop .i + 1 < 2 ^ 64
-small c =
-    let at = c .before in
-    omega (arith, stored-long (at .loop .inv .1), c .loop-test .taken, at .before .good .1 .0)
+mul-unpack-word : tie.Need-mul-unpack-word Inv-loop μ-loop
+mul-unpack-word c = search needs
 
-mul-bytes : tie.Need-mul-bytes Inv-loop μ-loop
-mul-bytes c = record { fits = omega (arith, small c) }
+shared-slice-read-unpack-word : tie.Need-shared-slice-read-unpack-word Inv-loop μ-loop
+shared-slice-read-unpack-word c = search needs
 
-shared-slice-read-bytes : tie.Need-shared-slice-read-bytes Inv-loop μ-loop
-shared-slice-read-bytes c =
-    let at = c .before .before in
-    omega (arith, stored-long (at .loop .inv .1), at .before .pre, c .before .loop-test .taken)
+unpack-word-requires : tie.Need-unpack-word-requires Inv-loop μ-loop
+unpack-word-requires c κs =
+    let turn = c .before .before in
+    let at = turn .before in
+    omega (arith, turn .loop-test .taken, at .before .before .before .pre, at .loop .inv .1 .long)
 
-shr-bytes : tie.Need-shr-bytes Inv-loop μ-loop
-shr-bytes c = search needs
-
-cast-bytes : tie.Need-cast-bytes Inv-loop μ-loop
-cast-bytes c = search needs
-
-slice-write-bytes : tie.Need-slice-write-bytes Inv-loop μ-loop
-slice-write-bytes c = search needs
-
-add-i : tie.Need-add-i Inv-loop μ-loop
-add-i c = record { fits = small (c .before) }
+add-w : tie.Need-add-w Inv-loop μ-loop
+add-w c = search needs
 
 loop-less : tie.Need-loop-less Inv-loop μ-loop
-loop-less c = simp length-set (omega (arith, c .before .loop-test .taken))
+loop-less c = search needs
 
 loop-again : tie.Need-loop-again Inv-loop μ-loop
 loop-again c =
-    let at = c .before .before in
-    (simp length-set (omega (arith, c .before .loop-test .taken)), stored-value _ (at .loop .inv .1) (bit-is _ _))
+    let unpacked = c .before .before in
+    let at = unpacked .before .before .before .before in
+    (search needs, items-more (at .loop .inv .1) (unpacked .unpack-word .ensures))
 
 same-length : tie.Need-same-length Inv-loop μ-loop
-same-length c = stored-long (c .before .loop .inv .1)
+same-length c = c .before .loop .inv .1 .long
 
 returns : tie.Need-returns Inv-loop μ-loop
-unfolding bytesIn
 returns c =
-    let at = c .before .loop in
-    let all : at .i ≡ length (now (c .before .before .args .bytes)) = omega (arith, stored-long (at .inv .1), at .inv .0, c .loop-test .left) in
-    stored-all (at .inv .1) (length-values (at .i) _ ∙ all) ∙ ap (λ m. values m (λ j. bit (inWords (now (c .before .before .args .words)) j))) all
+    let at = c .before in
+    items-all (at .loop .inv .1) (omega (arith, at .loop .inv .0, c .loop-test .left)) (at .before .before .before .pre)
 
 pub unpack-items-spec : {M : Type 1} → statement M
 unpack-items-spec =
@@ -75,12 +56,10 @@ unpack-items-spec =
     Inv-loop
     μ-loop
     loop-holds
-    mul-bytes
-    shared-slice-read-bytes
-    shr-bytes
-    cast-bytes
-    slice-write-bytes
-    add-i
+    mul-unpack-word
+    shared-slice-read-unpack-word
+    unpack-word-requires
+    add-w
     loop-less
     loop-again
     same-length
