@@ -3,13 +3,13 @@ use Prim.Native.Nat.{ℕ, _≤_, _<_}
 use mathlib.Core.Path.{_≡_, refl, sym, _∙_}
 use mathlib.Core.Bool.{Bool, true, false, _&&_}
 use mathlib.Core.List.{List, [], _∷_}
-use mathlib.Core.Option.{none}
+use mathlib.Core.Option.{none, some}
 use native.Mathlib.Omega.{arith}
 use borrow.Author.Tests.{leb-true, eqb-true, le-leb, eq-eqb}
 use lib.ListN.{length}
 use lib.Dec.{leb}
 use Rattle.model.specs.declared.refusal.Refusal.the-variants.{VertexCount, EndCount, BufferLength, PastLast}
-use Rattle.model.specs.Sums.{orElse}
+use Rattle.model.specs.Sums.{orElse, firstUpTo}
 use Rattle.model.specs.Board.{Board, ValidBytes, vertexLimit, edgeLimit}
 use Rattle.model.specs.Words.{wordCount, pastLast, unpackedSheet}
 use Rattle.model.specs.Refusals.{Rule, tested, refusalOf, sized, edgesOf, vertexCountRule, lengthRule, byteRules, openRules}
@@ -56,6 +56,22 @@ pub say-both : {n m : ℕ} {syndrome loss : List ℕ} → WithinWords n syndrome
 unfolding wordRules
 say-both {n} {m} {syndrome} {loss} lit lost =
     passes-each (wordRules n syndrome m loss) (say-words n syndrome lit, (say-words m loss lost, tt))
+
+-- Both rules 19: the syndrome's words decide, or else those of the losses.
+module _ (n : ℕ) (lit : List ℕ) (m : ℕ) (lost : List ℕ) where
+  pub syndrome-refused : {w : ℕ} → some w ≡ firstUpTo (length lit) (pastLast n lit) → some (PastLast (record { 0 = w })) ≡ refusalOf (wordRules n lit m lost)
+  unfolding wordRules
+  syndrome-refused p = rw (← p)
+
+  pub loss-refused : {w : ℕ} → none ≡ firstUpTo (length lit) (pastLast n lit) → some w ≡ firstUpTo (length lost) (pastLast m lost)
+      → some (PastLast (record { 0 = w })) ≡ refusalOf (wordRules n lit m lost)
+  unfolding wordRules
+  loss-refused p q = rw (← p, ← q)
+
+  pub neither-refused : none ≡ firstUpTo (length lit) (pastLast n lit) → none ≡ firstUpTo (length lost) (pastLast m lost)
+      → none ≡ refusalOf (wordRules n lit m lost)
+  unfolding wordRules
+  neither-refused p q = rw (← p, ← q)
 
 -- Packing and unpacking: both counts are in range, and every buffer has the length that its count gives.
 pub record Items (n m : ℕ) (syndrome loss syndromeWords lossWords : List ℕ) : Type 0 where
