@@ -1,6 +1,6 @@
--- Document 01, "What form to use where": number and values for each case of an answer. The layout is this project's own, one 64-bit number
--- for C, with what a caller takes from it (include/surface_table.h): bits 0 to 7 are the refusal's number, or 0; where refused, bits 8 to
--- 63 are the place; else bits 8 to 39 are a first and bits 40 to 63 a second value. Assumes nothing.
+-- Document 01, "What form to use where": number and values for each case of an answer (the packing of sheets is `Words`). The layout is this
+-- project's own, one 64-bit number for C, with what a caller takes from it (include/surface_table.h): bits 0 to 7 are the refusal's number,
+-- or 0; where refused, bits 8 to 63 are the place; else bits 8 to 39 are a first and bits 40 to 63 a second value. Assumes nothing.
 use Prim.Native.Nat.{ℕ, _+_, _*_, _/_, _%_, _^_}
 use mathlib.Core.Bool.{cond}
 use mathlib.Core.List.{List, [], _∷_}

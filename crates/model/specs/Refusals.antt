@@ -1,7 +1,6 @@
--- Document 01, "Numbers and places", and document 02, K1, K3, K5, K7 and K9: the number and the place of each refusal, and the rules of each
--- call in the order of their tests; those of calls on packed sheets stand in `WordRefusals`, those of the text in `TextOutcomes`. No refusal
--- has number 5, which was that of equal ends.
--- Assumes nothing.
+-- Document 01, "Numbers and places", and document 02, K1, K3, K5, K7 and K9: the number and the place of each refusal, and the rules of
+-- each call in the order of their tests; those of calls on packed sheets stand in `WordRefusals`, those of the text in `TextOutcomes`. No
+-- refusal has number 5, which was that of equal ends. Assumes nothing.
 use Prim.Native.Nat.{ℕ, _*_, _/_, _%_}
 use mathlib.Core.Bool.{Bool, cond, _&&_, _||_}
 use mathlib.Core.List.{List, [], _∷_, _++_, map}

@@ -1,7 +1,6 @@
 -- Document 02, K7: the rules of the calls on packed sheets, in the order of their tests. Number 19 is that of a bit past the last item; its
--- place is the word in its own sheet, and syndrome words come before loss words. The words of a syndrome are called `lit` here, those of the
--- losses `lost`.
--- Assumes nothing.
+-- place is the word in its own sheet, and syndrome words come before loss words. The words of a syndrome are called `lit` here, those of
+-- the losses `lost`. Assumes nothing.
 use Prim.Native.Nat.{ℕ}
 use mathlib.Core.Bool.{Bool, _&&_}
 use mathlib.Core.List.{List, [], _∷_, _++_}
@@ -53,8 +52,8 @@ unfoldable pub unpackRefusal : ℕ → ℕ → List ℕ → List ℕ → List �
 unfolding unpackRules
 unpackRefusal n m lit lost syndrome loss = refusalOf (unpackRules n m lit lost syndrome loss)
 
--- The lit total is lent the vertex count and the words of a syndrome, the list of lit vertices also a buffer to fill; `others` says that it has
--- its length, an entry for each vertex.
+-- The lit total is lent the vertex count and the words of a syndrome, the list of lit vertices also a buffer to fill; `others` says that it
+-- has its length, an entry for each vertex.
 unfoldable pub litRules : ℕ → List ℕ → Bool → List Rule
 unfolding wordRule
 litRules n words others = vertexCountRule n ∷ lengthRule (sized words (wordCount n) && others) ∷ wordRule n words ∷ []
@@ -63,8 +62,8 @@ unfoldable pub litRefusal : ℕ → List ℕ → Bool → Test
 unfolding litRules
 litRefusal n words others = refusalOf (litRules n words others)
 
--- Decoding of a packed sheet is lent a board, the words of both, and two buffers to fill. Rule 19 stands in the place of 7 and 8. It tests for
--- number 10 as decoding does.
+-- Decoding of a packed sheet is lent a board, the words of both, and two buffers to fill. Rule 19 stands in the place of 7 and 8. It tests
+-- for number 10 as decoding does.
 abbrev pub packedBoardRules : Board → List ℕ → List ℕ → List ℕ → List ℕ → List Rule
 packedBoardRules B lit lost support correction =
     let m = edgesOf (B .ends) in

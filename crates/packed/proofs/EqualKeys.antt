@@ -50,6 +50,7 @@ module _ (B : Board) (syndrome loss : List ℕ) (lit : ValidBytes (B .vertices) 
         → DecodesPacked B litWords lostWords support correction r support′ correction′
         ↔ Decodes (sheetOf B syndrome loss) support correction r support′ correction′
     equal-keys r support′ correction′ =
-        subst (λ X. DecodesPacked B litWords lostWords support correction r support′ correction′ ↔ Decodes X support correction r support′ correction′)
+        subst
+        (λ X. DecodesPacked B litWords lostWords support correction r support′ correction′ ↔ Decodes X support correction r support′ correction′)
         same-sheet
         (same-outcome B litWords lostWords support correction r support′ correction′ as-own-sheet)

@@ -1,5 +1,5 @@
--- Decoding of a packed sheet tests what decoding tests of its bytes, once the words are right: the unpacked bytes have their lengths and are
--- 0 or 1, so that 7 and 8 never come of them. So says the look at the words before decoding. Assumes nothing.
+-- Decoding of a packed sheet tests what decoding tests of its bytes, once the words are right: the unpacked bytes have their lengths and
+-- are 0 or 1, so that 7 and 8 never come of them. So says the look at the words before decoding. Assumes nothing.
 use Prim.Native.Nat.{ℕ}
 use mathlib.Core.Path.{_≡_, refl, sym, ap, ap₂, _∙_}
 use mathlib.Core.Bool.{Bool, _&&_}
@@ -142,7 +142,8 @@ module _ (B : Board) (syndrome loss support correction : List ℕ) where
 
   -- a word is refused, but after ends and marks
   pub screened-later : (r : Check) (n : Refusal) → refusalOf packedCounts ≡ none
-      → refusalOf (wordRules (B .vertices) syndrome m loss) ≡ some n → testOf r ≡ orElse (refusalOf (edgeRules B)) (some n) → Screened B syndrome loss support correction r
+      → refusalOf (wordRules (B .vertices) syndrome m loss) ≡ some n → testOf r ≡ orElse (refusalOf (edgeRules B)) (some n)
+      → Screened B syndrome loss support correction r
   screened-later r n p q e =
       refuses-as r
       (λ none-said. Option·some-ne-none n (neither-fails (refusalOf (edgeRules B)) (some n) (sym e ∙ none-said) .1))

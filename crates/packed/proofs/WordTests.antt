@@ -59,7 +59,8 @@ say-both {n} {m} {syndrome} {loss} lit lost =
 
 -- Both rules 19: the syndrome's words decide, or else those of the losses.
 module _ (n : ℕ) (lit : List ℕ) (m : ℕ) (lost : List ℕ) where
-  pub syndrome-refused : {w : ℕ} → some w ≡ firstUpTo (length lit) (pastLast n lit) → some (PastLast (record { 0 = w })) ≡ refusalOf (wordRules n lit m lost)
+  pub syndrome-refused : {w : ℕ} → some w ≡ firstUpTo (length lit) (pastLast n lit)
+      → some (PastLast (record { 0 = w })) ≡ refusalOf (wordRules n lit m lost)
   unfolding wordRules
   syndrome-refused p = rw (← p)
 
@@ -179,7 +180,8 @@ module _ (n m : ℕ) (syndrome loss syndromeWords lossWords : List ℕ) where
       → unpackRefusal n m syndromeWords lossWords syndrome loss ≡ none
   passes-unpack k = unpack-tests ∙ rw (say-items (k .items)) (say-both (k .syndrome-within) (k .loss-within))
 
--- The lit total and the list of lit vertices: 1 and 3, which say that the count is within its limit and that words and list have their lengths ..
+-- The lit total and the list of lit vertices: 1 and 3, which say that the count is within its limit and that words and list have their
+-- lengths ..
 pub record LitCounted (n : ℕ) (words : List ℕ) (others : Bool) : Type 0 where
   pub vertex-limit : n ≤ vertexLimit
   pub words-long : length words ≡ wordCount n

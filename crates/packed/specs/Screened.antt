@@ -13,18 +13,19 @@ use Rattle.board.specs.declared.outcome.Check.{Check}
 use Rattle.board.specs.Checks.{testOf}
 
 -- the counts are within the limits, and there are as many words as they fill
-pub record Fitting (B : Board) (syndrome loss : List ℕ) : Type 0 where
+pub record Fitting (B : Board) (lit lost : List ℕ) : Type 0 where
   pub vertex-limit : B .vertices ≤ vertexLimit
   pub edge-limit : edgesOf (B .ends) ≤ edgeLimit
-  pub syndrome-words : length syndrome ≡ wordCount (B .vertices)
-  pub loss-words : length loss ≡ wordCount (edgesOf (B .ends))
+  pub syndrome-words : length lit ≡ wordCount (B .vertices)
+  pub loss-words : length lost ≡ wordCount (edgesOf (B .ends))
 
 -- What a look at the words before decoding says: its refusal is that of the call; where it has none, the words fit, and the rest of the
 -- tests are those of decoding.
-pub record Screened (B : Board) (syndrome loss support correction : List ℕ) (r : Check) : Type 0 where
-  pub refused : (n : Refusal) → testOf r ≡ some n → decodePackedRefusal B syndrome loss support correction ≡ some n
-  pub fitting : testOf r ≡ none → Fitting B syndrome loss
-  pub the-rest : testOf r ≡ none → decodePackedRefusal B syndrome loss support correction ≡ decodeRefusal (unpackedSheet B syndrome loss) support correction
+pub record Screened (B : Board) (lit lost support correction : List ℕ) (r : Check) : Type 0 where
+  pub refused : (n : Refusal) → testOf r ≡ some n → decodePackedRefusal B lit lost support correction ≡ some n
+  pub fitting : testOf r ≡ none → Fitting B lit lost
+  pub the-rest : testOf r ≡ none
+      → decodePackedRefusal B lit lost support correction ≡ decodeRefusal (unpackedSheet B lit lost) support correction
 
 -- buffers for the bytes of a packed sheet, all 0
 pub record Unpackable (B : Board) (lit lost syndrome loss : List ℕ) : Type 0 where

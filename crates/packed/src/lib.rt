@@ -1,6 +1,7 @@
-// Packed sheets: syndromes and losses in 64-bit words, as lab files have them. Item i, a vertex or an edge, is bit i modulo 64 of word i / 64.
-// The words of a syndrome are lent as `lit`, those of the losses as `lost`.
+// Packed sheets: syndromes and losses in 64-bit words, as lab files have them. Item i, a vertex or an edge, is bit i modulo 64 of word i /
+// 64. The words of a syndrome are lent as `lit`, those of the losses as `lost`.
 mod checks;
+mod decoding;
 mod listing;
 mod packing;
 mod unpacking;
@@ -10,26 +11,19 @@ use crate::checks::check_lit;
 use crate::checks::check_pack;
 use crate::checks::check_unpack;
 use crate::checks::screen;
+use crate::decoding::decode_words;
 use crate::listing::list_bits;
 use crate::listing::set_bits;
 use crate::packing::pack_items;
-use crate::unpacking::unpack_in_zeros;
 use crate::unpacking::unpack_items;
 use board::outcome::Check;
-use decoder::decode;
 use model::answers::Decoded;
 use model::answers::Lit;
 use model::answers::Packed;
 use model::answers::Reading;
-use model::limits::EDGES;
-use model::limits::VERTICES;
-ghost use Rattle.model.specs.Words.{unpackedSheet};
-ghost use Rattle.model.specs.Board.{boardOf};
 ghost use Rattle.model.specs.Lent.{before, after, boardLent};
 ghost use Rattle.model.specs.WordOutcomes.{Packs, PacksSoundly, Unpacks, UnpacksSoundly, Totals, TotalsSoundly, Lists};
 ghost use Rattle.model.specs.WordOutcomes.{DecodesPacked, DecodesPackedSoundly};
-ghost use Rattle.model.specs.Outcomes.{Decodes};
-ghost use Rattle.packed.specs.Screened.{Unpackable};
 
 // The words of a syndrome and of the losses, from their bytes: how many there are of each; or a refusal, which writes nothing.
 pub fn pack(
@@ -134,51 +128,13 @@ pub fn decode_packed(
     ) {
         return Decoded::Refused(refusal);
     }
-    let edges = ends.len() / 2;
-    let mut syndrome = [0u8; VERTICES];
-    let mut loss = [0u8; EDGES];
-    unpack_and_decode(
+    decode_words(
         vertices,
         ends,
         marks,
         opened,
         lit,
         lost,
-        &mut syndrome[..vertices],
-        &mut loss[..edges],
-        support,
-        correction,
-    )
-}
-
-// Decodes the bytes of a packed sheet, which are unpacked into buffers of zeros.
-fn unpack_and_decode(
-    vertices: usize,
-    ends: &[u16],
-    marks: &[u8],
-    opened: &[u8],
-    lit: &[u64],
-    lost: &[u64],
-    syndrome: &mut [u8],
-    loss: &mut [u8],
-    support: &mut [u8],
-    correction: &mut [u8],
-) -> Decoded
-    requires { ⌜ Unpackable (boardOf vertices (now ends) (now marks) (now opened)) (now lit) (now lost)
-        (now syndrome) (now loss) ⌝ }
-    ensures { λ r.
-        ⌜ Decodes (unpackedSheet (boardLent vertices ends marks opened) (before lit) (before lost))
-        (before support) (before correction) r (after support) (after correction) ⌝ }
-{
-    unpack_in_zeros(lit, syndrome);
-    unpack_in_zeros(lost, loss);
-    decode(
-        vertices,
-        ends,
-        marks,
-        opened,
-        syndrome,
-        loss,
         support,
         correction,
     )

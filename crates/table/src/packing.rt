@@ -1,5 +1,5 @@
-// An answer as one number: bits 0 to 7 the refusal's number or 0; where refused, bits 8 to 63 the place; else bits 8 to 39 a first and
-// bits 40 to 63 a second value.
+// An answer as one number (sheets are packed in crate `packed`): bits 0 to 7 the refusal's number or 0; where refused, bits 8 to 63 the
+// place; else bits 8 to 39 a first and bits 40 to 63 a second value.
 use model::answers::Decoded;
 use model::answers::Lit;
 use model::answers::Reading;

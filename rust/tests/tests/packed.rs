@@ -173,6 +173,10 @@ fn keys_of_large_sheets() {
         crowd(&mut random, 1024, 4096),
         crowd_with_loops(&mut random, 1023, 4095),
         crowd(&mut random, 65, 129),
+        // on both sides of the counts above which the arrays of a call are larger
+        crowd(&mut random, 64, 256),
+        crowd(&mut random, 65, 256),
+        crowd(&mut random, 64, 257),
     ];
     for board in boards {
         for (rate, lost) in [(0, 0), (20, 0), (50, 100), (300, 500), (20, 1000)] {

@@ -1,4 +1,5 @@
--- `packed::list_lit` meets its contract: the refusal of the first test that fails, or the list of lit vertices with its total. Assumes nothing.
+-- `packed::list_lit` meets its contract: the refusal of the first test that fails, or the list of lit vertices with its total. Assumes
+-- nothing.
 use mathlib.Core.Path.{sym, ap, _∙_}
 use native.Mathlib.Omega.{arith}
 use borrow.Author.Needs.{needs}
@@ -43,7 +44,8 @@ returns-2 c =
     let told = listed .before .before in
     let tested = told .before .before in
     let a = tested .before .before .before .args in
-    list-filled (a .vertices) (now (a .lit)) (now (a .list)) _ _ (passed _ _ (tested .check-lit .ensures) (told .enum-told .given .1)) (listed .list-bits .ensures)
+    list-filled (a .vertices) (now (a .lit)) (now (a .list)) _ _
+    (passed _ _ (tested .check-lit .ensures) (told .enum-told .given .1)) (listed .list-bits .ensures)
 
 pub list-lit-spec : {M : Type 1} → statement M
 list-lit-spec =

@@ -48,10 +48,14 @@ enum-told : tie.Need-enum-told
 enum-told c = search needs
 
 pack-items-requires : tie.Need-pack-items-requires
-pack-items-requires c κs = let v = valid (c .before) in (as-many _ _ (v .syndrome-bytes), omega (arith, v .items .syndrome-long, v .items .syndrome-words))
+pack-items-requires c κs =
+    let v = valid (c .before) in
+    (as-many _ _ (v .syndrome-bytes), omega (arith, v .items .syndrome-long, v .items .syndrome-words))
 
 pack-items-requires-2 : tie.Need-pack-items-requires-2
-pack-items-requires-2 c κs = let v = valid (c .before .before .before .before .before) in (as-many _ _ (v .loss-bytes), omega (arith, v .items .loss-long, v .items .loss-words))
+pack-items-requires-2 c κs =
+    let v = valid (c .before .before .before .before .before) in
+    (as-many _ _ (v .loss-bytes), omega (arith, v .items .loss-long, v .items .loss-words))
 
 same-length-3 : tie.Need-same-length-3
 same-length-3 c = search needs

@@ -1,5 +1,5 @@
--- `packed::unpack` meets its contract: the refusal of the first test that fails, or the bytes of both sheets; `sound` follows from the outcome.
--- Assumes nothing.
+-- `packed::unpack` meets its contract: the refusal of the first test that fails, or the bytes of both sheets; `sound` follows from the
+-- outcome. Assumes nothing.
 use mathlib.Core.Path.{sym, ap, _∙_}
 use native.Mathlib.Omega.{arith}
 use borrow.Author.Needs.{needs}

@@ -28,7 +28,10 @@ same-length-5 c = search needs
 
 returns : tie.Need-returns
 returns c =
-    let answered = c .before .before .before .before .before .before .before .before .before .before .before in read-exported (c .pack-reading .ensures) (answered .read .ensures)
+    let answered = c .before .before .before .before .before .before .before .before .before .before .before in
+    read-exported (c .pack-reading .ensures) (answered .read .ensures)
 
 pub surface-read-spec : {M : Type 1} → statement M
-surface-read-spec = tie.close (tie.spec read-requires pack-reading-requires same-length same-length-2 same-length-3 same-length-4 same-length-5 returns)
+surface-read-spec =
+    tie.close
+    (tie.spec read-requires pack-reading-requires same-length same-length-2 same-length-3 same-length-4 same-length-5 returns)

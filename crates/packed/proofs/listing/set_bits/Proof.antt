@@ -1,4 +1,5 @@
--- `packed::listing::set_bits` meets its contract. The loop's invariant: `total` is the number of set bits in the first w words. Assumes nothing.
+-- `packed::listing::set_bits` meets its contract. The loop's invariant: `total` is the number of set bits in the first w words. Assumes
+-- nothing.
 use Prim.Native.Nat.{_-_, _*_, _^_, _≤_, _<_}
 use mathlib.Core.Path.{_≡_, ap, _∙_}
 use native.Mathlib.Omega.{arith}
@@ -20,10 +21,12 @@ abbrev μ-loop : tie.MeasureT-loop
 μ-loop words total₀ w₀ total w = length words - w
 
 -- the word that is counted has 64 bits, and so many set ones at most
-word : (c : tie.After-shared-slice-known Inv-loop μ-loop) → getD (now (c .before .before .before .args .words)) (c .before .before .loop .w) 0 < 2 ^ 64
+word : (c : tie.After-shared-slice-known Inv-loop μ-loop)
+    → getD (now (c .before .before .before .args .words)) (c .before .before .loop .w) 0 < 2 ^ 64
 word c = c .shared-slice-known .given (c .before .before .loop .w) .fits
 
-few : (c : tie.After-shared-slice-known Inv-loop μ-loop) → ones (getD (now (c .before .before .before .args .words)) (c .before .before .loop .w) 0) ≤ 64
+few : (c : tie.After-shared-slice-known Inv-loop μ-loop)
+    → ones (getD (now (c .before .before .before .args .words)) (c .before .before .loop .w) 0) ≤ 64
 few c = ones-le 64 _ (word c)
 
 loop-holds : tie.Need-loop-holds Inv-loop μ-loop

@@ -77,7 +77,8 @@ returns : tie.Need-returns Inv-loop μ-loop
 returns c =
     let at = c .before in
     let a = at .before .before .before .args in
-    packed-all (length (now (a .bytes))) (ones (now (a .bytes))) (a .w) (at .before .items-in .ensures) (omega (arith, c .loop-test .left)) (at .loop .inv .1)
+    packed-all (length (now (a .bytes))) (ones (now (a .bytes))) (a .w) (at .before .items-in .ensures)
+    (omega (arith, c .loop-test .left)) (at .loop .inv .1)
 
 pub packed-word-spec : {M : Type 1} → statement M
 packed-word-spec =

@@ -1,4 +1,5 @@
--- `packed::unpacking::unpack_in_zeros` meets its contract. The loop's invariant: the items of the first w words are unpacked. Assumes nothing.
+-- `packed::unpacking::unpack_in_zeros` meets its contract. The loop's invariant: the items of the first w words are unpacked. Assumes
+-- nothing.
 use Prim.Native.Nat.{_-_, _≤_}
 use native.Mathlib.Omega.{arith}
 use borrow.Author.Needs.{needs}

@@ -1,12 +1,12 @@
--- `packed::unpack_and_decode` meets its contract: what is decoded is the sheet that the words hold. Assumes nothing.
+-- `packed::decoding::unpack_and_decode` meets its contract: what is decoded is the sheet that the words hold. Assumes nothing.
 use native.Mathlib.Omega.{arith}
 use borrow.Author.Needs.{needs}
 use denote.Ref.{now}
 use Rattle.model.specs.Board.{boardOf}
 use Rattle.model.specs.Refusals.{edgesOf}
 use Rattle.packed.proofs.PackedDecoding.{zeros-long, zeros-are, decoded-unpacked}
-use Rattle.packed.proofs.unpack_and_decode.Statement.{statement}
-use Rattle.packed.proofs.unpack_and_decode.Tie as tie
+use Rattle.packed.proofs.decoding.unpack_and_decode.Statement.{statement}
+use Rattle.packed.proofs.decoding.unpack_and_decode.Tie as tie
 
 -- where the call began
 abbrev begun : tie.After-unpack-in-zeros → tie.Start
@@ -49,7 +49,8 @@ returns c =
     let first = second .before .before .before .before in
     let start = begun first in
     let a = start .args in
-    decoded-unpacked (boardOf (a .vertices) (now (a .ends)) (now (a .marks)) (now (a .opened))) (now (a .lit)) (now (a .lost)) (now (a .support)) (now (a .correction))
+    decoded-unpacked (boardOf (a .vertices) (now (a .ends)) (now (a .marks)) (now (a .opened)))
+    (now (a .lit)) (now (a .lost)) (now (a .support)) (now (a .correction))
     (start .pre) (first .unpack-in-zeros .ensures) (second .unpack-in-zeros2 .ensures) (decoded .decode .ensures .0)
 
 pub unpack-and-decode-spec : {M : Type 1} → statement M
