@@ -43,11 +43,13 @@ extern "C" {
 
 /* Raised by one whenever a call changes: its parameters, its tests or its answers, or a call more or
  * less. Programs and library must be built from one version; nothing else keeps them together. */
-#define SURFACE_VERSION 7
+#define SURFACE_VERSION 8
 
-/* The largest number of vertices and of edges of a board, and of bytes of a text. */
+/* The largest number of vertices and of edges of a board, of edges of a board that is played on, and
+ * of bytes of a text. */
 #define SURFACE_VERTICES 1024
 #define SURFACE_EDGES 4096
+#define SURFACE_GAME_EDGES 10
 #define SURFACE_TEXT 65536
 
 /* The counts of the buffers that surface_read fills. */
@@ -99,7 +101,10 @@ enum surface_refusal_number {
     SURFACE_REFUSED_OPEN_BYTE = 16,      /* the vertex */
     SURFACE_REFUSED_LIT_OPEN = 17,       /* the vertex */
     SURFACE_REFUSED_PLANAR_SIDE = 18,    /* the side */
-    SURFACE_REFUSED_PAST_LAST = 19       /* the word, in its own sheet */
+    SURFACE_REFUSED_PAST_LAST = 19,      /* the word, in its own sheet */
+    SURFACE_REFUSED_GAME_EDGES = 20,     /* place 0 */
+    SURFACE_REFUSED_POSITION_BYTE = 21,  /* the edge */
+    SURFACE_REFUSED_MOVE_COUNT = 22      /* place 0 */
 };
 
 /* What a refusal's number says; where it speaks of the edge, the vertex, the side, the line or the
@@ -127,6 +132,9 @@ static inline const char *surface_refusal_text(unsigned number)
     case SURFACE_REFUSED_LIT_OPEN: return "the vertex is open and lit";
     case SURFACE_REFUSED_PLANAR_SIDE: return "the side of a planar board is outside 2 to 31";
     case SURFACE_REFUSED_PAST_LAST: return "the word has a bit past the last item";
+    case SURFACE_REFUSED_GAME_EDGES: return "the board of a game has more than 10 edges";
+    case SURFACE_REFUSED_POSITION_BYTE: return "the edge has a position byte above 2";
+    case SURFACE_REFUSED_MOVE_COUNT: return "Winder has neither as many edges as Blocker nor one more";
     default: return "no refusal has this number";
     }
 }
@@ -149,6 +157,7 @@ static inline const char *surface_refusal_text(unsigned number)
 #define SURFACE_STACK_UNPACK 8192
 #define SURFACE_STACK_LIT_TOTAL 8192
 #define SURFACE_STACK_LIST_LIT 8192
+#define SURFACE_STACK_GAME 8192
 
 /* Decodes. Fills `support` with 0 to 2 half-edges and `correction` with 0 or 1, a byte for each edge.
  * The correction has the syndrome, and may end at open vertices, which have none.
@@ -319,6 +328,32 @@ uint64_t surface_lit_total(size_t vertices,
 uint64_t surface_list_lit(size_t vertices,
                           const uint64_t *syndrome_words, size_t syndrome_words_count,
                           uint16_t *list, size_t list_count);
+
+/* The two players: what the first value of surface_game says, and in a position the byte of an edge
+ * that is taken. */
+enum surface_player {
+    SURFACE_WINDER = 1,  /* moves first; wants a winding loop */
+    SURFACE_BLOCKER = 2
+};
+
+/* Says who can force the win from a position of a game on a board of at most SURFACE_GAME_EDGES edges.
+ * Writes nothing.
+ *
+ * Winder and Blocker take free edges in turn, Winder first. `position` has a byte for each edge: 0
+ * where it is free, else the player whose it is. So Winder is to move where both have as many edges,
+ * and Blocker where she has one more. Winder has won as soon as some of her edges are a winding loop,
+ * which on a board with open vertices may run from one of them to another; Blocker has won where no
+ * edge is free and she has not won.
+ *
+ * First value: the player who has won, or who can win whatever the other one does. Second: where that
+ * is the player to move, one more than the smallest free edge that keeps the win; 0 where the other
+ * player is to move, or where the position is finished. Taking the edge that is given, whenever it is
+ * the winner's turn, wins. */
+uint64_t surface_game(size_t vertices,
+                      const uint16_t *ends, size_t ends_count,
+                      const uint8_t *marks, size_t marks_count,
+                      const uint8_t *open, size_t open_count,
+                      const uint8_t *position, size_t position_count);
 
 #ifdef __cplusplus
 }

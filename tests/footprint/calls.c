@@ -5,7 +5,7 @@ size_t vertices, edges, text_count;
 uint32_t side, rounds;
 uint16_t ends[SURFACE_ENDS];
 uint8_t marks[SURFACE_MARKS], open_bytes[SURFACE_OPEN], syndrome[SURFACE_SYNDROME], loss[SURFACE_LOSS], handed[SURFACE_EDGES];
-uint8_t readings[SURFACE_VERTICES], correction[SURFACE_EDGES];
+uint8_t readings[SURFACE_VERTICES], correction[SURFACE_EDGES], position[SURFACE_EDGES];
 uint64_t syndrome_words[SURFACE_SYNDROME_WORDS], loss_words[SURFACE_LOSS_WORDS];
 
 uint64_t returned;
@@ -80,6 +80,8 @@ static void lit_total(void) { returned = surface_lit_total(vertices, syndrome_wo
 
 static void list_lit(void) { returned = surface_list_lit(vertices, syndrome_words, words(vertices), list, vertices); }
 
+static void game(void) { returned = surface_game(vertices, ends, 2 * edges, marks, edges, open_bytes, vertices, position, edges); }
+
 struct call calls[CALLS] = {
     {"surface_decode", decode, SURFACE_STACK_DECODE, 0, false, false},
     {"surface_decode_rounds", decode_rounds, SURFACE_STACK_DECODE_ROUNDS, 0, false, false},
@@ -96,4 +98,5 @@ struct call calls[CALLS] = {
     {"surface_unpack", unpack, SURFACE_STACK_UNPACK, 0, false, false},
     {"surface_lit_total", lit_total, SURFACE_STACK_LIT_TOTAL, 0, false, false},
     {"surface_list_lit", list_lit, SURFACE_STACK_LIST_LIT, 0, false, false},
+    {"surface_game", game, SURFACE_STACK_GAME, 0, false, false},
 };

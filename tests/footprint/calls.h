@@ -10,7 +10,7 @@ extern size_t vertices, edges, text_count;
 extern uint32_t side, rounds;
 extern uint16_t ends[SURFACE_ENDS];
 extern uint8_t marks[SURFACE_MARKS], open_bytes[SURFACE_OPEN], syndrome[SURFACE_SYNDROME], loss[SURFACE_LOSS], handed[SURFACE_EDGES];
-extern uint8_t readings[SURFACE_VERTICES], correction[SURFACE_EDGES];
+extern uint8_t readings[SURFACE_VERTICES], correction[SURFACE_EDGES], position[SURFACE_EDGES];
 extern uint64_t syndrome_words[SURFACE_SYNDROME_WORDS], loss_words[SURFACE_LOSS_WORDS];
 
 /* What the last call returned. */
@@ -41,6 +41,7 @@ enum {
     UNPACK,
     LIT_TOTAL,
     LIST_LIT,
+    GAME,
     CALLS
 };
 

@@ -2,9 +2,10 @@
  *
  * A call is made on a painted stack; what it used is counted from the top down to the lowest byte that lost its paint, the return address
  * and the arguments that pass over the stack among it. What a call can use shows once every frame of it is made: arrays have fixed lengths
- * and are filled when they are made, and the one recursion, over the digits of a number that is written, is at its deepest with numbers of
- * four digits. So each call is made on boards at the limits, on the smallest board, and where it refuses. The lowest bytes of a frame may
- * stay unwritten, 16 of them in surface_write; the page that the header adds has room for them.
+ * and are filled when they are made, and of the two recursions the one over the digits of a number that is written is at its deepest with
+ * numbers of four digits, and the one over the moves of a game where ten edges are free and the last is taken. So each call is made on
+ * boards at the limits, on the smallest board, and where it refuses. The lowest bytes of a frame may stay unwritten, 16 of them in
+ * surface_write; the page that the header adds has room for them.
  */
 #define _XOPEN_SOURCE 700
 #include <stdio.h>
@@ -72,6 +73,7 @@ static void measure_board(void)
     measure(DECODE_ROUNDS);
     measure(VERDICT);
     measure(DISTANCE);
+    measure(GAME);
     measure(WRITE);
     text_count = surface_refusal(returned) == SURFACE_NOT_REFUSED ? surface_first(returned) : 0;
     measure(READ);
@@ -238,6 +240,49 @@ static void long_path(void)
     measure_board();
 }
 
+/* The game from the start, and from each position in which so many of the first edges are taken in turn. */
+static void measure_positions(void)
+{
+    for (size_t taken = 0; taken <= edges; taken++) {
+        for (size_t e = 0; e < edges; e++)
+            position[e] = e >= taken ? 0 : e % 2 == 0 ? SURFACE_WINDER : SURFACE_BLOCKER;
+        measure(GAME);
+    }
+    memset(position, 0, sizeof position);
+}
+
+/* Games on as many edges as there may be, among as many vertices: first pairs of edges, each of them a winding loop, so that the other edge
+ * of a pair is the reply to each, down to the last; then a path without a mark, on which no loop winds; then the path with a mark and all
+ * vertices open, on which the marked edge wins. Then two edges of Winder's and none of Blocker's, a byte above 2, and an edge too many. */
+static void longest_games(void)
+{
+    vertices = SURFACE_VERTICES;
+    edges = SURFACE_GAME_EDGES;
+    memset(open_bytes, 0, sizeof open_bytes);
+    for (size_t e = 0; e < edges; e++) {
+        ends[2 * e] = (uint16_t)(vertices - 1 - e / 2);
+        ends[2 * e + 1] = (uint16_t)(e / 2);
+        marks[e] = (uint8_t)(e % 2);
+    }
+    measure_positions();
+    for (size_t e = 0; e < edges; e++) {
+        ends[2 * e] = (uint16_t)e;
+        ends[2 * e + 1] = (uint16_t)(e + 1);
+        marks[e] = 0;
+    }
+    measure_positions();
+    marks[edges - 1] = 3;
+    memset(open_bytes, 1, sizeof open_bytes);
+    measure_positions();
+    position[0] = position[1] = SURFACE_WINDER;
+    measure(GAME);
+    position[edges - 1] = 3;
+    measure(GAME);
+    edges++;
+    measure(GAME);
+    memset(position, 0, sizeof position);
+}
+
 /* The torus of side 1, whose edges are loop edges; one vertex without an edge, and none; the planar board of side 2; the stack of side 1
  * that is read once. */
 static void smallest(void)
@@ -269,6 +314,7 @@ int main(void)
     largest_stacks();
     most_edges();
     long_path();
+    longest_games();
     smallest();
 
     bool good = true;

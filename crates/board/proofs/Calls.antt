@@ -3,18 +3,18 @@
 use Prim.Native.Nat.{ℕ, _≤_}
 use mathlib.Core.Path.{_≡_, sym, _∙_}
 use mathlib.Core.Bool.{Bool, _&&_}
-use mathlib.Core.List.{List, [], _∷_, _++_}
+use mathlib.Core.List.{List, _∷_, _++_}
 use mathlib.Core.Option.{none}
 use native.Mathlib.Omega.{arith}
 use lib.ListN.{length}
 use Rattle.model.specs.Sums.{orElse}
-use Rattle.model.specs.Board.{Board, Sheet, Valid, ValidBytes, ValidSheet, edges, vertexLimit, edgeLimit}
-use Rattle.model.specs.Refusals.{Rule, refusalOf, edgesOf, sized, boardRules, plainRules, sheetRules, openRule, openRules, handedRule, decodeRefusal, verdictRefusal, distanceRefusal}
+use Rattle.model.specs.Board.{Board, Sheet, Valid, ValidBytes, ValidSheet, edges, edgeLimit}
+use Rattle.model.specs.Refusals.{Rule, refusalOf, edgesOf, sized, plainRules, sheetRules, openRules, handedRule, decodeRefusal, verdictRefusal, distanceRefusal}
 use Rattle.model.proofs.Xor.{and-left, and-right, and-both}
 use Rattle.model.proofs.RuleLists.{refusal-append}
 use Rattle.board.proofs.Failures.{neither-fails, each-passes, passes-each}
-use Rattle.board.proofs.Passing.{valid-ranged, ranged-valid, bytes-say, say-bytes}
-use Rattle.board.proofs.Validity.{board-passes, passes-board, plain-passes, passes-plain, plain-open, valid-plain, valid-open, sheet-passes, passes-sheet, long-enough, enough-long}
+use Rattle.board.proofs.Passing.{bytes-say, say-bytes}
+use Rattle.board.proofs.Validity.{plain-passes, passes-plain, plain-open, valid-plain, valid-open, sheet-passes, passes-sheet, whole-passes, passes-whole, long-enough, enough-long}
 
 -- a sheet's tests, and then others
 pub sheet-then : (X : Sheet) (others : Bool) (rs : List Rule)
@@ -91,30 +91,14 @@ pub record ForDistance (B : Board) (shown : List ℕ) : Type 0 where
   pub board : Valid B
   pub shown-long : length shown ≡ edges B
 
--- its tests: those of the board, then that of the open bytes
-pub distance-tests : (B : Board) (shown : List ℕ)
-    → distanceRefusal B shown ≡ orElse (refusalOf (boardRules B (sized shown (edgesOf (B .ends))))) (refusalOf (openRule (B .opened) ∷ []))
-unfolding distanceRefusal
-distance-tests B shown = refusal-append (boardRules B (sized shown (edgesOf (B .ends)))) (openRule (B .opened) ∷ [])
-
--- what the board's tests allow the test 16 to index
-pub open-allowed : (B : Board) (others : Bool) → refusalOf (boardRules B others) ≡ none → length (B .opened) ≤ vertexLimit
-open-allowed B others p =
-    let w = board-passes B others p in
-    omega (arith, w .board .open-long, w .board .inside .vertex-limit)
-
 pub distance-passes : (B : Board) (shown : List ℕ) → distanceRefusal B shown ≡ none → ForDistance B shown
+unfolding distanceRefusal
 distance-passes B shown p =
-    let t = neither-fails (refusalOf (boardRules B (sized shown (edgesOf (B .ends))))) _ (sym (distance-tests B shown) ∙ p) in
-    let w = board-passes B (sized shown (edgesOf (B .ends))) (t .0) in
-    let e = each-passes (openRule (B .opened) ∷ []) (t .1) in
-    record {
-      board = ranged-valid B (w .board) (bytes-say _ (B .opened) _ (w .board .open-long) (e .0));
-      shown-long = long-enough B shown (w .board .inside) (w .fit);
-    }
+    let w = whole-passes B (sized shown (edgesOf (B .ends))) p in
+    record { board = w .board; shown-long = long-enough B shown (w .board .inside) (w .fit) }
 
 pub passes-distance : (B : Board) (shown : List ℕ) → ForDistance B shown → distanceRefusal B shown ≡ none
+unfolding distanceRefusal
 passes-distance B shown w =
-    distance-tests B shown
-    ∙ rw (passes-board B _ (record { board = valid-ranged B (w .board); fit = enough-long B shown (w .board .inside) (w .shown-long) }))
-    (passes-each (openRule (B .opened) ∷ []) (say-bytes _ (B .opened) _ (w .board .open-bytes), tt))
+    passes-whole B (sized shown (edgesOf (B .ends)))
+    (record { board = w .board; fit = enough-long B shown (w .board .inside) (w .shown-long) })

@@ -23,14 +23,14 @@ passes-unless : (ok : Bool) (n : Refusal) → ok ≡ true → unless ok n ≡ no
 passes-unless ok n p = rw p
 
 -- a test by a pass over n places passes exactly where none of them breaks the rule
-place-passes : (n : ℕ) (f : Set) (at : ℕ → Refusal) → firstPlace n f at ≡ none → (i : ℕ) → i < n → f i ≡ false
+pub place-passes : (n : ℕ) (f : Set) (at : ℕ → Refusal) → firstPlace n f at ≡ none → (i : ℕ) → i < n → f i ≡ false
 place-passes n f at p = none-first n f (nowhere (firstUpTo n f) p)
   where
     nowhere : (o : Option ℕ) → refusedAt o at ≡ none → o ≡ none
     nowhere none q = refl
     nowhere (some i) q = absurd (Option·some-ne-none (at i) q)
 
-passes-place : (n : ℕ) (f : Set) (at : ℕ → Refusal) → ((i : ℕ) → i < n → f i ≡ false) → firstPlace n f at ≡ none
+pub passes-place : (n : ℕ) (f : Set) (at : ℕ → Refusal) → ((i : ℕ) → i < n → f i ≡ false) → firstPlace n f at ≡ none
 passes-place n f at out = rw (first-none n f out)
 
 or-left : (a b : Bool) → (a || b) ≡ false → a ≡ false

@@ -3,14 +3,14 @@
 use Prim.Native.Nat.{ℕ, _*_, _≤_}
 use mathlib.Core.Path.{_≡_, sym, _∙_}
 use mathlib.Core.Bool.{Bool, true, _&&_}
-use mathlib.Core.List.{List}
+use mathlib.Core.List.{List, [], _∷_, _++_}
 use mathlib.Core.Option.{none}
 use native.Mathlib.Omega.{arith}
 use borrow.Author.Tests.{eqb-true, eq-eqb}
 use lib.ListN.{length}
 use Rattle.model.specs.Sums.{orElse}
-use Rattle.model.specs.Board.{Board, Sheet, Inside, ValidBytes, ValidSheet, edges, vertexLimit, edgeLimit}
-use Rattle.model.specs.Refusals.{Rule, refusalOf, edgesOf, sized, boardSized, countRules, edgeRules, boardRules, byteRules, bytesSized, plainRules, openRules, sheetRules}
+use Rattle.model.specs.Board.{Board, Sheet, Inside, Valid, ValidBytes, ValidSheet, edges, vertexLimit, edgeLimit}
+use Rattle.model.specs.Refusals.{Rule, refusalOf, edgesOf, sized, boardSized, countRules, edgeRules, boardRules, byteRules, bytesSized, plainRules, openRule, openRules, sheetRules}
 use Rattle.model.proofs.Xor.{and-left, and-right, and-both}
 use Rattle.model.proofs.RuleLists.{refusal-append}
 use Rattle.board.proofs.Failures.{neither-fails, each-passes, passes-each}
@@ -72,6 +72,38 @@ passes-board B others w =
     board-tests B others
     ∙ rw (passes-each (boardCounts B others) (say-counts (B .vertices) (B .ends) _ (counted B _ (w .board) fits)))
     (passes-each (edgeRules B) (say-edges B (w .board)))
+
+-- A board with its open bytes, lent with other buffers: it is valid, and each of those has its length.
+pub record Wholed (B : Board) (others : Bool) : Type 0 where
+  pub board : Valid B
+  pub fit : others ≡ true
+
+abbrev pub wholeRules : Board → Bool → List Rule
+wholeRules B others = boardRules B others ++ (openRule (B .opened) ∷ [])
+
+-- its tests: those of the board, then that of the open bytes
+pub whole-tests : (B : Board) (others : Bool)
+    → refusalOf (wholeRules B others) ≡ orElse (refusalOf (boardRules B others)) (refusalOf (openRule (B .opened) ∷ []))
+whole-tests B others = refusal-append (boardRules B others) (openRule (B .opened) ∷ [])
+
+-- what the board's tests allow the test 16 to index
+pub open-allowed : (B : Board) (others : Bool) → refusalOf (boardRules B others) ≡ none → length (B .opened) ≤ vertexLimit
+open-allowed B others p =
+    let w = board-passes B others p in
+    omega (arith, w .board .open-long, w .board .inside .vertex-limit)
+
+pub whole-passes : (B : Board) (others : Bool) → refusalOf (wholeRules B others) ≡ none → Wholed B others
+whole-passes B others p =
+    let t = neither-fails (refusalOf (boardRules B others)) _ (sym (whole-tests B others) ∙ p) in
+    let w = board-passes B others (t .0) in
+    let e = each-passes (openRule (B .opened) ∷ []) (t .1) in
+    record { board = ranged-valid B (w .board) (bytes-say _ (B .opened) _ (w .board .open-long) (e .0)); fit = w .fit }
+
+pub passes-whole : (B : Board) (others : Bool) → Wholed B others → refusalOf (wholeRules B others) ≡ none
+passes-whole B others w =
+    whole-tests B others
+    ∙ rw (passes-board B others (record { board = valid-ranged B (w .board); fit = w .fit }))
+    (passes-each (openRule (B .opened) ∷ []) (say-bytes _ (B .opened) _ (w .board .open-bytes), tt))
 
 -- a buffer has a byte for each edge of a valid board exactly where it is half as long as the ends
 pub long-enough : (B : Board) (l : List ℕ) → Inside B → sized l (edgesOf (B .ends)) ≡ true → length l ≡ edges B

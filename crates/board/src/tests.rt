@@ -9,11 +9,12 @@ use crate::outcome::FoundEdge;
 use crate::outcome::FoundVertex;
 use model::refusal::Refusal;
 ghost use mathlib.Core.Path.{_≡_};
+ghost use mathlib.Core.List.{[], _∷_, _++_};
 ghost use Prim.Native.Nat.{_*_, _≤_};
 ghost use lib.ListN.{length};
 ghost use Rattle.model.specs.Board.{edgeLimit, vertexLimit, withoutOpen};
 ghost use Rattle.model.specs.Lent.{before, boardLent, sheetLent};
-ghost use Rattle.model.specs.Refusals.{refusalOf, edgesOf, edgeRules, byteRules, boardRules, plainRules, sheetRules, decodeRefusal, verdictRefusal, distanceRefusal};
+ghost use Rattle.model.specs.Refusals.{refusalOf, edgesOf, edgeRules, byteRules, boardRules, plainRules, openRule, sheetRules, decodeRefusal, verdictRefusal, distanceRefusal};
 ghost use Rattle.board.specs.Checks.{testOf};
 
 // The tests 4 and 6, once the counts have passed.
@@ -53,6 +54,23 @@ fn check_board(vertices: usize, ends: &[u16], marks: &[u8], opened: &[u8], other
         return Check::Failed(refusal);
     }
     check_edges(vertices, ends, marks)
+}
+
+// The same, and then the test 16.
+pub fn check_whole_board(
+    vertices: usize,
+    ends: &[u16],
+    marks: &[u8],
+    opened: &[u8],
+    others: bool,
+) -> Check
+    ensures { λ r.
+        ⌜ testOf r ≡ refusalOf (boardRules (boardLent vertices ends marks opened) others ++ (openRule (before opened) ∷ [])) ⌝ }
+{
+    if let Check::Failed(refusal) = check_board(vertices, ends, marks, opened, others) {
+        return Check::Failed(refusal);
+    }
+    check_open_bytes(opened)
 }
 
 // The tests 1 to 4 and 6 to 8 of a sheet; `others` says whether each buffer lent beside it has its length.
@@ -160,8 +178,5 @@ pub fn check_distance(
     ensures { λ r. ⌜ testOf r ≡ distanceRefusal (boardLent vertices ends marks opened) (before shown) ⌝ }
 {
     let fit = shown.len() == ends.len() / 2;
-    if let Check::Failed(refusal) = check_board(vertices, ends, marks, opened, fit) {
-        return Check::Failed(refusal);
-    }
-    check_open_bytes(opened)
+    check_whole_board(vertices, ends, marks, opened, fit)
 }

@@ -6,7 +6,7 @@ use mathlib.Core.Logic.{_≢_}
 use native.Mathlib.Omega.{arith}
 use borrow.Author.Tests.{ne-eqb}
 use Rattle.model.specs.declared.refusal.Refusal.{Refusal}
-use Rattle.model.specs.declared.refusal.Refusal.the-variants.{VertexCount, EndCount, BufferLength, EndRange, MarkRange, SyndromeByte, LossByte, HandedByte, NoCorrection, TorusSide, TextLength, MalformedLine, TextBuffer, RoundCount, OpenByte, LitOpen, PlanarSide, PastLast}
+use Rattle.model.specs.declared.refusal.Refusal.the-variants.{VertexCount, EndCount, BufferLength, EndRange, MarkRange, SyndromeByte, LossByte, HandedByte, NoCorrection, TorusSide, TextLength, MalformedLine, TextBuffer, RoundCount, OpenByte, LitOpen, PlanarSide, PastLast, GameEdges, PositionByte, MoveCount}
 use Rattle.model.specs.Refusals.{numberOf, placeOf}
 use Rattle.model.specs.Packing.{packed, packedRefusal, refusalNumber, placeIn, firstValue, secondValue, unpackedRefusal, unpacked}
 
@@ -21,8 +21,8 @@ unpacked-first first second h = omega arith
 pub unpacked-second : (first second : ℕ) → second < 2 ^ 24 → secondValue (packed first second) ≡ second
 unpacked-second first second h = omega arith
 
--- a refusal's number is 1 to 19, and never 5
-pub numbered : (n : Refusal) → (1 ≤ numberOf n) × (numberOf n ≤ 19) × (numberOf n ≢ 5)
+-- a refusal's number is 1 to 22, and never 5
+pub numbered : (n : Refusal) → (1 ≤ numberOf n) × (numberOf n ≤ 22) × (numberOf n ≢ 5)
 numbered VertexCount = (omega arith, omega arith, λ p. omega arith)
 numbered EndCount = (omega arith, omega arith, λ p. omega arith)
 numbered BufferLength = (omega arith, omega arith, λ p. omega arith)
@@ -41,6 +41,9 @@ numbered (OpenByte v) = (omega arith, omega arith, λ p. omega arith)
 numbered (LitOpen v) = (omega arith, omega arith, λ p. omega arith)
 numbered (PlanarSide side) = (omega arith, omega arith, λ p. omega arith)
 numbered (PastLast w) = (omega arith, omega arith, λ p. omega arith)
+numbered GameEdges = (omega arith, omega arith, λ p. omega arith)
+numbered (PositionByte e) = (omega arith, omega arith, λ p. omega arith)
+numbered MoveCount = (omega arith, omega arith, λ p. omega arith)
 
 pub unpacked-number : (n : Refusal) → refusalNumber (packedRefusal n) ≡ numberOf n
 unpacked-number n = let small = numbered n .1 in omega arith
@@ -68,6 +71,9 @@ by-number (OpenByte v) = refl
 by-number (LitOpen v) = refl
 by-number (PlanarSide side) = refl
 by-number (PastLast w) = refl
+by-number GameEdges = refl
+by-number (PositionByte e) = refl
+by-number MoveCount = refl
 
 -- The general law
 

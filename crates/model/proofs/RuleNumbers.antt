@@ -6,7 +6,7 @@ use mathlib.Core.Path.{_≡_, refl}
 use mathlib.Core.Bool.{Bool}
 use mathlib.Core.List.{List, [], _∷_}
 use Rattle.model.specs.Board.{Board, Sheet}
-use Rattle.model.specs.Refusals.{decodeRules, verdictRules, distanceRules, torusRules, planarRules, stackRules, facesRules}
+use Rattle.model.specs.Refusals.{decodeRules, verdictRules, distanceRules, torusRules, planarRules, stackRules, facesRules, gameRules}
 use Rattle.model.specs.TextOutcomes.{Buffers, readRules, writeRules}
 use Rattle.model.specs.WordRefusals.{packRules, unpackRules, litRules, decodePackedRules}
 use Rattle.model.specs.Precedence.{Numbered}
@@ -79,3 +79,8 @@ pub decode-packed-numbers : (B : Board) (syndrome loss support correction : List
 unfolding decodePackedRules
 decode-packed-numbers B syndrome loss support correction =
     record { in-turn = (refl, (refl, (refl, (its-place 4, (its-place 6, (its-place 19, (its-place 19, (its-place 16, (its-place 17, tt))))))))) }
+
+pub game-numbers : (B : Board) (position : List ℕ) → Numbered (1 ∷ 2 ∷ 3 ∷ 4 ∷ 6 ∷ 16 ∷ 20 ∷ 21 ∷ 22 ∷ []) (gameRules B position)
+unfolding gameRules
+game-numbers B position =
+    record { in-turn = (refl, (refl, (refl, (its-place 4, (its-place 6, (its-place 16, (refl, (its-place 21, (refl, tt))))))))) }

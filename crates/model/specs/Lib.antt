@@ -19,6 +19,7 @@ pub mod Stack
 pub mod Histories
 pub mod Faces
 pub mod Words
+pub mod Game
 pub mod Refusals
 pub mod WordRefusals
 pub mod Precedence
@@ -27,10 +28,13 @@ pub mod RoundsOutcomes
 pub mod StackOutcomes
 pub mod FacesOutcomes
 pub mod WordOutcomes
+pub mod Replies
+pub mod GameOutcomes
 pub mod MarkedSheets
 pub mod StackSheets
 pub mod FaceSheets
 pub mod WordSheets
+pub mod GameSheets
 pub mod Text
 pub mod LineNumbers
 pub mod TextOutcomes

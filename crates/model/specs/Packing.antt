@@ -1,13 +1,14 @@
 -- Document 01, "What form to use where": number and values for each case of an answer (the packing of sheets is `Words`). The layout is this
 -- project's own, one 64-bit number for C, with what a caller takes from it (include/surface_table.h): bits 0 to 7 are the refusal's number,
 -- or 0; where refused, bits 8 to 63 are the place; else bits 8 to 39 are a first and bits 40 to 63 a second value. Assumes nothing.
-use Prim.Native.Nat.{ℕ, _+_, _*_, _/_, _%_, _^_}
+use Prim.Native.Nat.{ℕ, _+_, _-_, _*_, _/_, _%_, _^_}
 use mathlib.Core.Bool.{cond}
 use mathlib.Core.List.{List, [], _∷_}
 use lib.Dec.{eqb}
 use Rattle.model.specs.Refusals.{numberOf, placeOf}
+use Rattle.model.specs.Game.{byteOf}
 use Rattle.model.specs.declared.refusal.Refusal.{Refusal}
-use Rattle.model.specs.declared.refusal.Refusal.the-variants.{VertexCount, EndCount, BufferLength, EndRange, MarkRange, SyndromeByte, LossByte, HandedByte, NoCorrection, TorusSide, TextLength, MalformedLine, TextBuffer, RoundCount, OpenByte, LitOpen, PlanarSide, PastLast}
+use Rattle.model.specs.declared.refusal.Refusal.the-variants.{VertexCount, EndCount, BufferLength, EndRange, MarkRange, SyndromeByte, LossByte, HandedByte, NoCorrection, TorusSide, TextLength, MalformedLine, TextBuffer, RoundCount, OpenByte, LitOpen, PlanarSide, PastLast, GameEdges, PositionByte, MoveCount}
 use Rattle.model.specs.declared.answers.Decoded.{Decoded}
 use Rattle.model.specs.declared.answers.Decoded.the-variants as decoded
 use Rattle.model.specs.declared.answers.RoundsDecoded.{RoundsDecoded}
@@ -26,6 +27,12 @@ use Rattle.model.specs.declared.answers.Packed.{Packed}
 use Rattle.model.specs.declared.answers.Packed.the-variants as words
 use Rattle.model.specs.declared.answers.Lit.{Lit}
 use Rattle.model.specs.declared.answers.Lit.the-variants as lit
+use Rattle.model.specs.declared.answers.Player.{Player}
+use Rattle.model.specs.declared.answers.Player.the-variants.{Winder, Blocker}
+use Rattle.model.specs.declared.answers.Forced.{Forced}
+use Rattle.model.specs.declared.answers.Forced.the-variants.{Taking, Waiting}
+use Rattle.model.specs.declared.answers.Game.{Game}
+use Rattle.model.specs.declared.answers.Game.the-variants as game
 
 -- Packing
 
@@ -85,6 +92,15 @@ abbrev pub packedLit : Lit → ℕ
 packedLit (lit.Total t) = packed t 0
 packedLit (lit.Refused n) = packedRefusal n
 
+-- 1 Winder, 2 Blocker, as in a position; the edge and 1, or 0 where no edge is shown
+abbrev pub packedForced : Forced → ℕ
+packedForced (Taking P e) = packed (byteOf P) (e .0 + 1)
+packedForced (Waiting P) = packed (byteOf P) 0
+
+abbrev pub packedGame : Game → ℕ
+packedGame (game.Position f) = packedForced f
+packedGame (game.Refused n) = packedRefusal n
+
 -- Taking apart
 
 -- bits 0 to 7, bits 8 to 63, bits 8 to 39 and bits 40 to 63 of a number below 2 ^ 64
@@ -121,6 +137,9 @@ refusalsAt at =
     ∷ LitOpen (record { 0 = at })
     ∷ PlanarSide at
     ∷ PastLast (record { 0 = at })
+    ∷ GameEdges
+    ∷ PositionByte (record { 0 = at })
+    ∷ MoveCount
     ∷ []
 
 -- the first refusal of a list that has the number n; where none has it, number 14
@@ -174,3 +193,14 @@ unpackedWords = unpacked words.Refused words.Words
 
 unfoldable pub unpackedLit : ℕ → Lit
 unpackedLit = unpacked lit.Refused (λ total rest. lit.Total total)
+
+-- a first value of 1 is Winder, and the only other is 2; a second value of 0 shows no edge
+abbrev pub playerWith : ℕ → Player
+playerWith first = cond (eqb first 1) Winder Blocker
+
+abbrev pub gameWith : ℕ → ℕ → Game
+gameWith first second =
+    game.Position (cond (eqb second 0) (Waiting (playerWith first)) (Taking (playerWith first) (record { 0 = second - 1 })))
+
+unfoldable pub unpackedGame : ℕ → Game
+unpackedGame = unpacked game.Refused gameWith

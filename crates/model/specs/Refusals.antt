@@ -1,20 +1,22 @@
--- Document 01, "Numbers and places", and document 02, K1, K3, K5, K7 and K9: the number and the place of each refusal, and the rules of
+-- Document 01, "Numbers and places", and document 02, K1, K3, K5, K7, K9 and K11: the number and the place of each refusal, and the rules of
 -- each call in the order of their tests; those of calls on packed sheets stand in `WordRefusals`, those of the text in `TextOutcomes`. No
 -- refusal has number 5, which was that of equal ends. Assumes nothing.
-use Prim.Native.Nat.{ℕ, _*_, _/_, _%_}
+use Prim.Native.Nat.{ℕ, _+_, _*_, _/_, _%_}
 use mathlib.Core.Bool.{Bool, cond, _&&_, _||_}
 use mathlib.Core.List.{List, [], _∷_, _++_, map}
 use mathlib.Core.Option.{Option, none, some}
 use lib.ListN.{length, getD}
 use lib.Dec.{eqb, leb, ltb}
 use Rattle.model.specs.declared.refusal.Refusal.{Refusal}
-use Rattle.model.specs.declared.refusal.Refusal.the-variants.{VertexCount, EndCount, BufferLength, EndRange, MarkRange, SyndromeByte, LossByte, HandedByte, NoCorrection, TorusSide, TextLength, MalformedLine, TextBuffer, RoundCount, OpenByte, LitOpen, PlanarSide, PastLast}
+use Rattle.model.specs.declared.refusal.Refusal.the-variants.{VertexCount, EndCount, BufferLength, EndRange, MarkRange, SyndromeByte, LossByte, HandedByte, NoCorrection, TorusSide, TextLength, MalformedLine, TextBuffer, RoundCount, OpenByte, LitOpen, PlanarSide, PastLast, GameEdges, PositionByte, MoveCount}
+use Rattle.model.specs.declared.answers.Player.the-variants.{Winder, Blocker}
 use Rattle.model.specs.Sums.{Set, ones, firstUpTo}
 use Rattle.model.specs.Board.{Board, Sheet, edges, firstEnd, secondEnd, vertexLimit, edgeLimit}
 use Rattle.model.specs.Decoding.{smallestOdd}
 use Rattle.model.specs.Torus.{leastSide, largestSide}
 use Rattle.model.specs.Planar.{leastPlanar, largestPlanar, planarVertices, planarEdges}
 use Rattle.model.specs.Stack.{stackVertices, stackEdges}
+use Rattle.model.specs.Game.{heldCount}
 
 -- the number of each refusal
 abbrev pub numberOf : Refusal → ℕ
@@ -36,6 +38,9 @@ numberOf (OpenByte v) = 16
 numberOf (LitOpen v) = 17
 numberOf (PlanarSide side) = 18
 numberOf (PastLast w) = 19
+numberOf GameEdges = 20
+numberOf (PositionByte e) = 21
+numberOf MoveCount = 22
 
 -- its place: an edge, a vertex, the side, a line or a word; where the table of document 01 has place 0, 0
 abbrev pub placeOf : Refusal → ℕ
@@ -57,6 +62,9 @@ placeOf (OpenByte v) = v .0
 placeOf (LitOpen v) = v .0
 placeOf (PlanarSide side) = side
 placeOf (PastLast w) = w .0
+placeOf GameEdges = 0
+placeOf (PositionByte e) = e .0
+placeOf MoveCount = 0
 
 -- A rule is kept or not as a whole, or broken at some of n places; each way to break it has its refusal.
 pub data Rule : Type 0 where
@@ -161,6 +169,20 @@ planarSideRule L = whole (leb leastPlanar L && leb L largestPlanar) (PlanarSide 
 abbrev pub roundsRule : ℕ → ℕ → Rule
 roundsRule L R = whole (leb 1 R && leb (stackVertices L R) vertexLimit) RoundCount
 
+-- Rule 20: a game is played on at most 10 edges. Rule 21: a position byte is at most 2. Rule 22: Winder has as many edges as Blocker, or one
+-- more.
+abbrev pub gameLimit : ℕ
+gameLimit = 10
+
+abbrev pub gameEdgesRule : Board → Rule
+gameEdgesRule B = whole (leb (edges B) gameLimit) GameEdges
+
+abbrev pub positionRule : List ℕ → Rule
+positionRule p = each (length p) (above 2 p) (λ e. PositionByte (record { 0 = e }))
+
+abbrev pub moveRule : List ℕ → Rule
+moveRule p = whole (eqb (heldCount Winder p) (heldCount Blocker p) || eqb (heldCount Winder p) (heldCount Blocker p + 1)) MoveCount
+
 -- how many edges the ends stand for: what the other lengths are held to
 abbrev pub edgesOf : List ℕ → ℕ
 edgesOf ends = length ends / 2
@@ -232,6 +254,17 @@ distanceRules B shown = boardRules B (sized shown (edgesOf (B .ends))) ++ (openR
 unfoldable pub distanceRefusal : Board → List ℕ → Test
 unfolding distanceRules
 distanceRefusal B shown = refusalOf (distanceRules B shown)
+
+-- The game is lent a board and a position, which has a byte for each edge.
+unfoldable pub gameRules : Board → List ℕ → List Rule
+unfolding boardRules
+gameRules B position =
+    boardRules B (sized position (edgesOf (B .ends)))
+    ++ (openRule (B .opened) ∷ gameEdgesRule B ∷ positionRule position ∷ moveRule position ∷ [])
+
+unfoldable pub gameRefusal : Board → List ℕ → Test
+unfolding gameRules
+gameRefusal B position = refusalOf (gameRules B position)
 
 -- The torus builder is lent buffers for 4L² ends and 2L² marks. A side that breaks rule 11 is refused first, whatever the lengths; any
 -- other length is then 3, also of the ends, which are to be filled and not given.

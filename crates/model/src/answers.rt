@@ -1,3 +1,4 @@
+use crate::numbers::Edge;
 use crate::numbers::Vertex;
 use crate::refusal::Refusal;
 
@@ -56,5 +57,24 @@ pub enum Packed {
 // What the lit total and the list of lit vertices answer: the total, or a refusal.
 pub enum Lit {
     Total(usize),
+    Refused(Refusal),
+}
+
+// The two who play.
+pub enum Player {
+    Winder,
+    Blocker,
+}
+
+// Who can force the win from a position: the player to move, by taking an edge, the smallest that keeps the win; or a player who is shown no
+// edge, because the other is to move or the game is over.
+pub enum Forced {
+    Taking(Player, Edge),
+    Waiting(Player),
+}
+
+// What the game answers: who can force the win, or a refusal.
+pub enum Game {
+    Position(Forced),
     Refused(Refusal),
 }

@@ -24,3 +24,8 @@ pub const TORUS_EDGES: usize = 2 * VERTICES;
 pub const LEAST_PLANAR: usize = 2;
 
 pub const LARGEST_PLANAR: usize = 31;
+
+// The largest number of edges on which a game is played, and the number of sets of so many edges.
+pub const GAME_EDGES: usize = 10;
+
+pub const GAME_SETS: usize = 1024;

@@ -24,6 +24,9 @@ pub enum Refusal {
     LitOpen(Vertex),
     PlanarSide(usize),
     PastLast(Word),
+    GameEdges,
+    PositionByte(Edge),
+    MoveCount,
 }
 
 // The refusal's number.
@@ -49,6 +52,9 @@ pub fn number(refusal: Refusal) -> u8
         Refusal::LitOpen(_) => 17,
         Refusal::PlanarSide(_) => 18,
         Refusal::PastLast(_) => 19,
+        Refusal::GameEdges => 20,
+        Refusal::PositionByte(_) => 21,
+        Refusal::MoveCount => 22,
     }
 }
 
@@ -75,5 +81,8 @@ pub fn place(refusal: Refusal) -> usize
         Refusal::LitOpen(v) => v.0 as usize,
         Refusal::PlanarSide(side) => side,
         Refusal::PastLast(w) => w.0 as usize,
+        Refusal::GameEdges => 0,
+        Refusal::PositionByte(e) => e.0 as usize,
+        Refusal::MoveCount => 0,
     }
 }

@@ -12,7 +12,7 @@ use Rattle.model.specs.Sums.{Set, bit, countUpTo, members}
 use Rattle.model.specs.Words.{bitOf}
 use Rattle.model.proofs.Bits.{eqb-bit}
 use Rattle.packed.specs.Listing.{bitsFrom}
-use Rattle.packed.proofs.BitLaws.{lowest-bit, higher-bit, half-below}
+use Rattle.theory.proofs.BitLaws.{lowest-bit, higher-bit, half-below}
 
 -- no set bits
 pub bits-none : (d first : ℕ) → bitsFrom d first 0 ≡ []

@@ -1,6 +1,5 @@
 pub mod WordTests
 pub mod Screening
-pub mod BitLaws
 pub mod PastLast
 pub mod RoundTrips
 pub mod BitLists

@@ -17,7 +17,7 @@ use Rattle.model.specs.Sums.{someUpTo, firstUpTo}
 use Rattle.model.specs.Words.{bitOf, inWords, wordCount, pastLast}
 use Rattle.model.proofs.SumLaws.{none-some, some-none, first-none, first-is}
 use Rattle.model.proofs.Xor.{not-false-true}
-use Rattle.packed.proofs.BitLaws.{no-higher, few-bits}
+use Rattle.theory.proofs.BitLaws.{no-higher, few-bits}
 
 -- bit k of word w is item 64w + k
 pub in-word : (words : List ℕ) (w k : ℕ) → k < 64 → inWords words (64 * w + k) ≡ bitOf (getD words w 0) k

@@ -14,7 +14,7 @@ use Rattle.model.specs.Words.{bitOf, inWords, wordCount, numberWith, itemsOf, w
 use Rattle.model.proofs.ListLaws.{length-values, getD-values, values-are, ones-bytes}
 use Rattle.model.proofs.SumLaws.{none-some, some-none}
 use Rattle.model.proofs.Bits.{byte-bit}
-use Rattle.packed.proofs.BitLaws.{number-bit, number-cong, number-of-bits}
+use Rattle.theory.proofs.BitLaws.{number-bit, number-cong, number-of-bits}
 use Rattle.packed.proofs.PastLast.{in-word}
 use Rattle.packed.proofs.WordTests.{WithinWords}
 

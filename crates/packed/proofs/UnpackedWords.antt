@@ -11,7 +11,7 @@ use Rattle.model.specs.Words.{bitOf, wordCount, bytesIn}
 use Rattle.model.proofs.ListLaws.{values-are, zero-everywhere}
 use Rattle.packed.specs.WordItems.{WordItems}
 use Rattle.packed.specs.Unpacking.{BitsUnpacked, WordUnpacked, ZerosFrom, ItemsUnpacked}
-use Rattle.packed.proofs.BitLaws.{bit-is, no-higher}
+use Rattle.theory.proofs.BitLaws.{bit-is, no-higher}
 use Rattle.packed.proofs.PastLast.{in-word}
 
 -- Bit by bit

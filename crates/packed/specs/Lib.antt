@@ -1,7 +1,6 @@
 pub mod Found
 pub mod WordItems
 pub mod Storing
-pub mod Packing
 pub mod Unpacking
 pub mod Listing
 pub mod Screened

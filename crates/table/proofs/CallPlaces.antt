@@ -1,17 +1,19 @@
 -- The places of each call's refusals. A test that goes through places stands after those of the counts, so it goes through few.
 -- Assumes nothing.
-use Prim.Native.Nat.{ℕ, _*_, _%_, _^_, _≤_, _<_}
+use Prim.Native.Nat.{ℕ, _+_, _*_, _%_, _^_, _≤_, _<_}
 use mathlib.Core.Path.{_≡_}
-use mathlib.Core.Bool.{Bool, true, _&&_}
+use mathlib.Core.Bool.{Bool, true, _&&_, _||_}
 use mathlib.Core.List.{List, [], _∷_}
 use native.Mathlib.Omega.{arith}
 use lib.ListN.{length}
 use lib.Dec.{eqb, leb}
-use Rattle.model.specs.declared.refusal.Refusal.the-variants.{VertexCount, EndCount, BufferLength, EndRange, MarkRange, SyndromeByte, LossByte, HandedByte, TorusSide, TextLength, TextBuffer, RoundCount, OpenByte, LitOpen, PlanarSide, PastLast}
+use Rattle.model.specs.declared.refusal.Refusal.the-variants.{VertexCount, EndCount, BufferLength, EndRange, MarkRange, SyndromeByte, LossByte, HandedByte, TorusSide, TextLength, TextBuffer, RoundCount, OpenByte, LitOpen, PlanarSide, PastLast, GameEdges, PositionByte, MoveCount}
+use Rattle.model.specs.declared.answers.Player.the-variants.{Winder, Blocker}
 use Rattle.model.specs.Sums.{ones}
 use Rattle.model.specs.Board.{Board, Sheet, edges, vertexLimit, edgeLimit}
 use Rattle.model.specs.Decoding.{smallestOdd}
-use Rattle.model.specs.Refusals.{Test, tested, refusalOf, sized, edgesOf, outside, above, litOpen, boardSized, countRules, edgeRules, boardRules, byteRules, plainRules, openRule, openRules, sheetRules, sideRule, planarSideRule, lengthRule, handedRule, syndromeRule, decodeRefusal, verdictRefusal, distanceRefusal, torusRefusal, planarRefusal, stackSized, layerRules, stackRefusal, lossRule, facesSized, facesRefusal, oddPartTest, noneAt}
+use Rattle.model.specs.Refusals.{Test, tested, refusalOf, sized, edgesOf, outside, above, litOpen, boardSized, countRules, edgeRules, boardRules, byteRules, plainRules, openRule, openRules, sheetRules, sideRule, planarSideRule, lengthRule, handedRule, syndromeRule, decodeRefusal, verdictRefusal, distanceRefusal, torusRefusal, planarRefusal, stackSized, layerRules, stackRefusal, lossRule, facesSized, facesRefusal, gameLimit, gameRefusal, oddPartTest, noneAt}
+use Rattle.model.specs.Game.{heldCount}
 use Rattle.model.specs.Torus.{leastSide, largestSide}
 use Rattle.model.specs.Planar.{leastPlanar, largestPlanar, planarVertices, planarEdges}
 use Rattle.model.specs.Stack.{stackVertices}
@@ -22,8 +24,8 @@ use Rattle.model.specs.WordRefusals.{wordRule, wordRules, wordsSized, itemRules
 use Rattle.model.proofs.Places.{PlaceBelow, EachBelow, wider, unless-below, at-below, first-below, else-below, rules-below}
 use Rattle.model.proofs.RuleLists.{unless-passes, refusal-append}
 use Rattle.theory.proofs.SmallestOdd.{smallest-odd-exactly}
-use Rattle.board.proofs.Validity.{board-tests, counts-allow, plain-tests, board-allows, sheet-tests, plain-passes, plain-allows}
-use Rattle.board.proofs.Calls.{verdict-tests, handed-allowed, distance-tests, open-allowed}
+use Rattle.board.proofs.Validity.{board-tests, counts-allow, plain-tests, board-allows, wholeRules, whole-tests, open-allowed, sheet-tests, plain-passes, plain-allows}
+use Rattle.board.proofs.Calls.{verdict-tests, handed-allowed}
 use Rattle.board.proofs.Failures.{neither-fails, each-passes}
 use Rattle.stack.proofs.LayerTests.{passed-layers}
 use Rattle.stack.proofs.StackTests.{stack-tests, readings-long}
@@ -31,6 +33,7 @@ use Rattle.torus.proofs.SideRefused.{passed-within}
 use Rattle.faces.proofs.FaceTests.{bytes-allowed, handed-allowed as handed-few}
 use Rattle.packed.proofs.WordTests.{items-say, items-allow, pack-tests, unpack-tests, litCounts, lit-tests, lit-counts-say, before-open-tests, packed-tests}
 use Rattle.packed.proofs.Screening.{board-fits}
+use Rattle.game.proofs.GameTests.{playRules, game-tests, position-allowed}
 use Rattle.text.proofs.ReadOutcome.{fit}
 use Rattle.text.proofs.WriteOutcome.{textRules, write-tests}
 
@@ -89,6 +92,11 @@ board-small B others =
     rw (board-tests B others)
     (else-below _ _ (counts-small (B .vertices) (B .ends) fits) (λ p. edges-small B (counts-allow B others p)))
 
+whole-small : (B : Board) (others : Bool) → Small (refusalOf (wholeRules B others))
+whole-small B others =
+    rw (whole-tests B others)
+    (else-below _ _ (board-small B others) (λ p. rules-below (openRule (B .opened) ∷ []) (open-byte-small (B .opened) (open-allowed B others p), tt)))
+
 plain-small : (X : Sheet) (others : Bool) → Small (refusalOf (plainRules X others))
 plain-small X others =
     rw (plain-tests X others)
@@ -122,9 +130,23 @@ odd-small X h =
     (λ v p. omega (arith, smallest-odd-exactly (X .board) (ones (X .syndrome)) v .0 p .less))
 
 pub distance-small : (B : Board) (shown : List ℕ) → Small (distanceRefusal B shown)
-distance-small B shown =
-    rw (distance-tests B shown)
-    (else-below _ _ (board-small B _) (λ p. rules-below (openRule (B .opened) ∷ []) (open-byte-small (B .opened) (open-allowed B _ p), tt)))
+unfolding distanceRefusal
+distance-small B shown = whole-small B _
+
+pub game-small : (B : Board) (position : List ℕ) → Small (gameRefusal B position)
+game-small B position =
+    rw (game-tests B position)
+    (else-below _ _ (whole-small B _) (λ p.
+    let few = position-allowed B position p in
+    let level = eqb (heldCount Winder position) (heldCount Blocker position) in
+    let ahead = eqb (heldCount Winder position) (heldCount Blocker position + 1) in
+    rules-below (playRules B position) (
+      unless-below (leb (edges B) gameLimit) GameEdges (omega arith),
+      (
+        first-below (length position) (above 2 position) (λ e. PositionByte (record { 0 = e })) (λ e l. omega arith),
+        (unless-below (level || ahead) MoveCount (omega arith), tt),
+      ),
+    )))
 
 -- a side is the only place that isn't bounded by a test
 pub torus-side : (side : ℕ) (ends marks : List ℕ) → side < 2 ^ 32 → PlaceBelow (2 ^ 56) (torusRefusal side ends marks)

@@ -12,9 +12,11 @@ use Rattle.model.specs.declared.answers.Reading.{Reading}
 use Rattle.model.specs.declared.answers.Written.{Written}
 use Rattle.model.specs.declared.answers.Packed.{Packed}
 use Rattle.model.specs.declared.answers.Lit.{Lit}
+use Rattle.model.specs.declared.answers.Game.{Game}
 use Rattle.model.specs.Board.{Board, Sheet}
 use Rattle.model.specs.Outcomes.{decodeAnswer, Decodes, DecodesSoundly, verdictAnswer, Judges, JudgesSoundly}
 use Rattle.model.specs.Outcomes.{distanceAnswer, Measures, torusAnswer, Builds, planarAnswer, BuildsPlanar}
+use Rattle.model.specs.GameOutcomes.{gameAnswer, Plays, PlaysSoundly}
 use Rattle.model.specs.FacesOutcomes.{facesAnswer, ShowsFaces, FacesSoundly}
 use Rattle.model.specs.StackOutcomes.{stackAnswer, BuildsStack, StacksSoundly}
 use Rattle.model.specs.RoundsOutcomes.{roundsAnswer, DecodesInRounds, RoundsSoundly}
@@ -23,8 +25,8 @@ use Rattle.model.specs.WordOutcomes.{decodePackedAnswer, DecodesPacked, Decodes
 use Rattle.model.specs.WordOutcomes.{unpackAnswer, Unpacks, UnpacksSoundly, litAnswer, Totals, TotalsSoundly, listAnswer, Lists}
 use Rattle.model.specs.Packing.{packedDecoded, packedRounds, packedVerdict, packedDistance, packedBuilt, packedReading, packedWritten}
 use Rattle.model.specs.Packing.{unpackedDecoded, unpackedRounds, unpackedVerdict, unpackedDistance, unpackedBuilt, unpackedReading, unpackedWritten}
-use Rattle.model.specs.Packing.{packedWords, packedLit, unpackedWords, unpackedLit}
-use Rattle.table.proofs.Returned.{decode-returned, rounds-returned, verdict-returned, distance-returned, torus-returned, planar-returned, stack-returned, faces-returned, read-returned, write-returned, pack-returned, unpack-returned, lit-returned, list-returned, decode-packed-returned}
+use Rattle.model.specs.Packing.{packedWords, packedLit, packedGame, unpackedWords, unpackedLit, unpackedGame}
+use Rattle.table.proofs.Returned.{decode-returned, rounds-returned, verdict-returned, distance-returned, game-returned, torus-returned, planar-returned, stack-returned, faces-returned, read-returned, write-returned, pack-returned, unpack-returned, lit-returned, list-returned, decode-packed-returned}
 
 exported : {A : Type 0} (pack : A → ℕ) (unpack : ℕ → A) (P : A → Type 0) {a b : A} {r : ℕ} → unpack (pack b) ≡ b → a ≡ b → r ≡ pack a → P a
     → (r ≡ pack b) × P (unpack r)
@@ -68,6 +70,11 @@ pub distance-exported : {B : Board} {shown : List ℕ} {a : Distance} {l : List 
     → (r ≡ packedDistance (distanceAnswer B shown)) × Measures B shown (unpackedDistance r) l
 distance-exported {B} {shown} {a} {l} p w =
     exported packedDistance unpackedDistance (λ d. Measures B shown d l) (distance-returned B shown) (w .result) p w
+
+pub game-exported : {B : Board} {position : List ℕ} {a : Game} {r : ℕ} → r ≡ packedGame a → Plays B position a × PlaysSoundly B position a
+    → (r ≡ packedGame (gameAnswer B position)) × (Plays B position (unpackedGame r) × PlaysSoundly B position (unpackedGame r))
+game-exported {B} {position} p w =
+    exported packedGame unpackedGame (λ g. Plays B position g × PlaysSoundly B position g) (game-returned B position) (w .0 .result) p w
 
 pub torus-exported : {side : ℕ} {ends marks : List ℕ} {a : Built} {e m : List ℕ} {r : ℕ} → side < 2 ^ 32 → r ≡ packedBuilt a → Builds side ends marks a e m
     → (r ≡ packedBuilt (torusAnswer side ends marks)) × Builds side ends marks (unpackedBuilt r) e m

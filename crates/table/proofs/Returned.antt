@@ -1,11 +1,11 @@
 -- A caller who takes a returned number apart has the call's answer: nothing of any answer is cut off. Assumes nothing.
-use Prim.Native.Nat.{ℕ, _+_, _*_, _^_, _≤_, _<_}
-use mathlib.Core.Path.{_≡_, refl}
+use Prim.Native.Nat.{ℕ, _+_, _-_, _*_, _^_, _≤_, _<_}
+use mathlib.Core.Path.{_≡_, refl, _∙_}
 use mathlib.Core.Bool.{Bool, true, false, cond, _&&_}
 use mathlib.Core.List.{List, [], _∷_}
 use mathlib.Core.Option.{Option, none, some}
 use native.Mathlib.Omega.{arith}
-use borrow.Author.Tests.{leb-true}
+use borrow.Author.Tests.{leb-true, ne-eqb}
 use lib.ListN.{length}
 use lib.Dec.{eqb, leb}
 use Rattle.model.specs.declared.refusal.Refusal.{Refusal}
@@ -19,6 +19,12 @@ use Rattle.model.specs.declared.answers.Reading.the-variants as reading
 use Rattle.model.specs.declared.answers.Written.the-variants as written
 use Rattle.model.specs.declared.answers.Packed.the-variants as words
 use Rattle.model.specs.declared.answers.Lit.the-variants as lit
+use Rattle.model.specs.declared.numbers.Edge.{Edge}
+use Rattle.model.specs.declared.answers.Player.{Player}
+use Rattle.model.specs.declared.answers.Player.the-variants.{Winder, Blocker}
+use Rattle.model.specs.declared.answers.Forced.{Forced}
+use Rattle.model.specs.declared.answers.Forced.the-variants.{Taking, Waiting}
+use Rattle.model.specs.declared.answers.Game.the-variants as game
 use Rattle.model.specs.Sums.{Set, ones}
 use Rattle.model.specs.Board.{Board, Sheet, Valid, edges}
 use Rattle.model.specs.Winding.{crossings, together, size}
@@ -27,24 +33,26 @@ use Rattle.model.specs.Rounds.{allOdd}
 use Rattle.model.specs.Decoding.{growths, corrected, rounds, roundCorrected}
 use Rattle.model.specs.Verdict.{differs, judgedAt, judged}
 use Rattle.model.specs.Distance.{fewest}
+use Rattle.model.specs.Game.{byteOf, forced}
 use Rattle.model.specs.Torus.{leastSide, largestSide}
 use Rattle.model.specs.Planar.{leastPlanar, largestPlanar, planarVertices, planarEdges}
 use Rattle.model.specs.Stack.{stackVertices}
-use Rattle.model.specs.Refusals.{placeOf, Test, sized, sideRule, planarSideRule, lengthRule, oddPartTest, decodeRefusal, verdictRefusal, distanceRefusal, torusRefusal, planarRefusal, stackRefusal, facesRefusal}
+use Rattle.model.specs.Refusals.{placeOf, Test, sized, sideRule, planarSideRule, lengthRule, oddPartTest, decodeRefusal, verdictRefusal, distanceRefusal, torusRefusal, planarRefusal, stackRefusal, facesRefusal, gameLimit, gameRefusal}
 use Rattle.model.specs.Outcomes.{answer, keyOrNone, decodeAnswer, judgedOrNone, verdictAnswer, distanceOf, distanceAnswer, torusAnswer, planarAnswer}
 use Rattle.model.specs.RoundsOutcomes.{roundsOrNone, roundsAnswer}
 use Rattle.model.specs.StackOutcomes.{stackAnswer}
 use Rattle.model.specs.FacesOutcomes.{torusSheet, facesAnswer}
+use Rattle.model.specs.GameOutcomes.{gameAnswer}
 use Rattle.model.specs.Text.{Read, complete, refused, textOf, readText}
 use Rattle.model.specs.TextOutcomes.{Buffers, textLimit, readRefusal, readOutcome, counts, writeRefusal, writeAnswer}
 use Rattle.model.specs.Words.{inWords, wordCount, litTotal, unpackedSheet}
 use Rattle.model.specs.WordRefusals.{packRefusal, unpackRefusal, litRefusal, decodePackedRefusal}
 use Rattle.model.specs.WordOutcomes.{packAnswer, unpackAnswer, litAnswer, listAnswer, decodePackedAnswer}
-use Rattle.model.specs.Packing.{packedDecoded, packedRounds, packedVerdict, packedDistance, packedBuilt, packedReading, packedWritten, packedWords, packedLit, unpackedDecoded, unpackedRounds, verdictWith, unpackedVerdict, distanceWith, unpackedDistance, unpackedBuilt, unpackedReading, unpackedWritten, unpackedWords, unpackedLit}
+use Rattle.model.specs.Packing.{packed, packedDecoded, packedRounds, packedVerdict, packedDistance, packedBuilt, packedReading, packedWritten, packedWords, packedLit, packedGame, unpackedDecoded, unpackedRounds, verdictWith, unpackedVerdict, distanceWith, unpackedDistance, unpackedBuilt, unpackedReading, unpackedWritten, unpackedWords, unpackedLit, playerWith, gameWith, unpackedGame}
 use Rattle.model.proofs.SumLaws.{count-bound}
 use Rattle.model.proofs.Packing.{unpacked-values, unpacked-refusal}
 use Rattle.model.proofs.Places.{PlaceBelow, answer-holds}
-use Rattle.theory.proofs.AnswerBounds.{count-limit, size-bound, differs-bound, crossings-bound, fewest-bound}
+use Rattle.theory.proofs.AnswerBounds.{count-limit, size-bound, differs-bound, crossings-bound, fewest-bound, forced-bound}
 use Rattle.theory.proofs.ReadBounds.{LineBelow, line-below}
 use Rattle.theory.proofs.RoundTrip.{written-read}
 use Rattle.model.proofs.Xor.{and-right}
@@ -57,9 +65,10 @@ use Rattle.planar.proofs.Numbering.{vertices-limit}
 use Rattle.stack.proofs.StackPasses.{stack-passes}
 use Rattle.torus.proofs.TorusValid.{torus-valid}
 use Rattle.faces.proofs.FaceTests.{faces-passes}
+use Rattle.game.proofs.GameTests.{game-passes}
 use Rattle.packed.proofs.WordTests.{pack-passes, unpack-passes, lit-passes}
 use Rattle.packed.proofs.Screening.{packed-passes}
-use Rattle.table.proofs.CallPlaces.{roomy, decode-small, verdict-small, odd-small, distance-small, torus-side, planar-side, stack-side, faces-side, read-small, write-small, pack-small, unpack-small, lit-small, decode-packed-small}
+use Rattle.table.proofs.CallPlaces.{roomy, decode-small, verdict-small, odd-small, distance-small, game-small, torus-side, planar-side, stack-side, faces-side, read-small, write-small, pack-small, unpack-small, lit-small, decode-packed-small}
 
 -- An answer comes back where the refusals of its test and what follows where it passes do.
 back : {A : Type 0} (pack : A → ℕ) (unpack : ℕ → A) {refused : Refusal → A} {else : A} (t : Test)
@@ -199,6 +208,40 @@ unfolding distanceAnswer
 distance-returned B shown =
     back packedDistance unpackedDistance (distanceRefusal B shown) distance-refusal (roomy (distance-small B shown))
     (λ p. distance-fewest B (distance-passes B shown p .board))
+
+-- The game: a player, and an edge or none
+
+game-refusal : (n : Refusal) → placeOf n < 2 ^ 56 → unpackedGame (packedGame (game.Refused n)) ≡ game.Refused n
+unfolding unpackedGame
+game-refusal n h = unpacked-refusal game.Refused gameWith n h
+
+-- a player comes back from the byte, and both values as they are
+player-back : (P : Player) → playerWith (byteOf P) ≡ P
+player-back Winder = refl
+player-back Blocker = refl
+
+game-values : (P : Player) (second : ℕ) → second < 2 ^ 24 → unpackedGame (packed (byteOf P) second) ≡ gameWith (byteOf P) second
+unfolding unpackedGame
+game-values Winder second h = unpacked-values game.Refused gameWith 1 second (omega arith) h
+game-values Blocker second h = unpacked-values game.Refused gameWith 2 second (omega arith) h
+
+-- an edge is one less than its value, which is never 0
+game-forced : (f : Forced) → ((P : Player) (e : Edge) → f ≡ Taking P e → e .0 < gameLimit)
+    → unpackedGame (packedGame (game.Position f)) ≡ game.Position f
+game-forced (Taking P e) small =
+    let below = small P e refl in
+    let after : e .0 + 1 - 1 ≡ e .0 = omega arith in
+    game-values P (e .0 + 1) (omega arith)
+    ∙ rw (ne-eqb (e .0 + 1) 0 (λ q. omega arith), player-back P, after)
+game-forced (Waiting P) small = game-values P 0 (omega arith) ∙ rw (player-back P)
+
+pub game-returned : (B : Board) (position : List ℕ) → unpackedGame (packedGame (gameAnswer B position)) ≡ gameAnswer B position
+unfolding gameAnswer
+game-returned B position =
+    back packedGame unpackedGame (gameRefusal B position) game-refusal (roomy (game-small B position))
+    (λ p.
+    let few = game-passes B position p .few in
+    game-forced (forced B position) (λ P e q. omega (arith, forced-bound B position P e q)))
 
 -- The torus: L² vertices. A side is lent as 32 bits, to all builders.
 

@@ -1,11 +1,12 @@
 // The static library: the calls of the table under plain C names, each answering one packed number. Of each, `number` says which number,
 // and `outcome` that what a caller takes from it is the call's answer, with the final contents of every buffer; of decoding, in rounds too,
-// of the verdict, with faces too, of the stack and of all calls on packed sheets, `sound` says what may be relied on, of the same answer.
-// The words of a packed syndrome are lent as `lit`, those of packed losses as `lost`.
+// of the verdict, with faces too, of the game, of the stack and of all calls on packed sheets, `sound` says what may be relied on, of the
+// same answer. The words of a packed syndrome are lent as `lit`, those of packed losses as `lost`.
 mod packing;
 
 use crate::packing::pack;
 use crate::packing::pack_decoded;
+use crate::packing::pack_game;
 use crate::packing::pack_lit;
 use crate::packing::pack_reading;
 use crate::packing::pack_refusal;
@@ -19,6 +20,7 @@ ghost use mathlib.Core.Path.{_≡_};
 ghost use Rattle.model.specs.Lent.{before, after, boardLent, sheetLent};
 ghost use Rattle.model.specs.Outcomes.{decodeAnswer, Decodes, DecodesSoundly, verdictAnswer, Judges, JudgesSoundly};
 ghost use Rattle.model.specs.Outcomes.{distanceAnswer, Measures, torusAnswer, Builds, planarAnswer, BuildsPlanar};
+ghost use Rattle.model.specs.GameOutcomes.{gameAnswer, Plays, PlaysSoundly};
 ghost use Rattle.model.specs.FacesOutcomes.{facesAnswer, ShowsFaces, FacesSoundly};
 ghost use Rattle.model.specs.StackOutcomes.{stackAnswer, BuildsStack, StacksSoundly};
 ghost use Rattle.model.specs.RoundsOutcomes.{roundsAnswer, DecodesInRounds, RoundsSoundly};
@@ -27,7 +29,7 @@ ghost use Rattle.model.specs.WordOutcomes.{decodePackedAnswer, DecodesPacked, D
 ghost use Rattle.model.specs.WordOutcomes.{unpackAnswer, Unpacks, UnpacksSoundly, litAnswer, Totals, TotalsSoundly, listAnswer, Lists};
 ghost use Rattle.model.specs.Packing.{packedDecoded, packedRounds, packedVerdict, packedDistance, packedBuilt, packedReading, packedWritten};
 ghost use Rattle.model.specs.Packing.{unpackedDecoded, unpackedRounds, unpackedVerdict, unpackedDistance, unpackedBuilt, unpackedReading, unpackedWritten};
-ghost use Rattle.model.specs.Packing.{packedWords, packedLit, unpackedWords, unpackedLit};
+ghost use Rattle.model.specs.Packing.{packedWords, packedLit, packedGame, unpackedWords, unpackedLit, unpackedGame};
 
 // The key of a sheet: growths and correction edges, with the support and correction bytes filled.
 #[no_mangle]
@@ -372,4 +374,20 @@ pub extern "C" fn surface_list_lit(vertices: usize, lit: &[u64], list: &mut [u16
     ensures sound { λ r. ⌜ TotalsSoundly vertices (before lit) (unpackedLit r) ⌝ }
 {
     pack_lit(packed::list_lit(vertices, lit, list))
+}
+
+// Who can force the win of the game from a position: 1 Winder, 2 Blocker; and the edge to take and 1, or 0 where no edge is shown.
+#[no_mangle]
+pub extern "C" fn surface_game(
+    vertices: usize,
+    ends: &[u16],
+    marks: &[u8],
+    opened: &[u8],
+    position: &[u8],
+) -> u64
+    ensures number { λ r. ⌜ r ≡ packedGame (gameAnswer (boardLent vertices ends marks opened) (before position)) ⌝ }
+    ensures outcome { λ r. ⌜ Plays (boardLent vertices ends marks opened) (before position) (unpackedGame r) ⌝ }
+    ensures sound { λ r. ⌜ PlaysSoundly (boardLent vertices ends marks opened) (before position) (unpackedGame r) ⌝ }
+{
+    pack_game(game::game(vertices, ends, marks, opened, position))
 }

@@ -1,14 +1,18 @@
 // An answer as one number (sheets are packed in crate `packed`): bits 0 to 7 the refusal's number or 0; where refused, bits 8 to 63 the
 // place; else bits 8 to 39 a first and bits 40 to 63 a second value.
 use model::answers::Decoded;
+use model::answers::Forced;
+use model::answers::Game;
 use model::answers::Lit;
+use model::answers::Player;
 use model::answers::Reading;
 use model::answers::Verdict;
 use model::refusal::Refusal;
 use model::refusal::number;
 use model::refusal::place;
 ghost use mathlib.Core.Path.{_≡_};
-ghost use Rattle.model.specs.Packing.{packed, packedRefusal, packedDecoded, packedVerdict, packedReading, packedLit};
+ghost use Rattle.model.specs.Packing.{packed, packedRefusal, packedDecoded, packedVerdict, packedReading, packedLit, packedForced, packedGame};
+ghost use Rattle.model.specs.Game.{byteOf};
 
 pub(crate) fn pack(first: usize, second: usize) -> u64
     ensures { λ r. ⌜ r ≡ packed first second ⌝ }
@@ -65,5 +69,35 @@ pub(crate) fn pack_lit(lit: Lit) -> u64
     match lit {
         Lit::Total(total) => pack(total, 0),
         Lit::Refused(n) => pack_refusal(n),
+    }
+}
+
+// A player, as in a position: 1 Winder, 2 Blocker.
+fn player_value(player: Player) -> usize
+    ensures { λ r. ⌜ r ≡ byteOf player ⌝ }
+{
+    match player {
+        Player::Winder => 1,
+        Player::Blocker => 2,
+    }
+}
+
+// Who can force the win: the player, and the edge and 1, or 0 where no edge is shown.
+fn pack_forced(forced: Forced) -> u64
+    ensures { λ r. ⌜ r ≡ packedForced forced ⌝ }
+{
+    match forced {
+        Forced::Taking(player, e) => pack(player_value(player), e.0 as usize + 1),
+        Forced::Waiting(player) => pack(player_value(player), 0),
+    }
+}
+
+// What the game answers.
+pub(crate) fn pack_game(game: Game) -> u64
+    ensures { λ r. ⌜ r ≡ packedGame game ⌝ }
+{
+    match game {
+        Game::Position(forced) => pack_forced(forced),
+        Game::Refused(n) => pack_refusal(n),
     }
 }

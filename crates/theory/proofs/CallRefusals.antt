@@ -23,15 +23,18 @@ use Rattle.model.specs.declared.answers.Built.the-variants as built
 use Rattle.model.specs.declared.answers.Reading.the-variants as reading
 use Rattle.model.specs.declared.answers.Packed.the-variants as packed
 use Rattle.model.specs.declared.answers.Lit.the-variants as lit
+use Rattle.model.specs.declared.answers.Game.the-variants as game
 use Rattle.model.specs.Board.{Board, Sheet, vertexLimit}
 use Rattle.model.specs.Torus.{leastSide, largestSide}
 use Rattle.model.specs.Planar.{leastPlanar, largestPlanar, planarVertices, planarEdges}
 use Rattle.model.specs.Stack.{stackVertices}
-use Rattle.model.specs.Refusals.{Rule, Test, refusalOf, numberOf, noneAt, sized, lengthRule, sideRule, planarSideRule, decodeRules, decodeRefusal, verdictRules, verdictRefusal, distanceRules, distanceRefusal, torusRules, torusRefusal, planarRules, planarRefusal, layerRules, readingRules, stackRules, stackRefusal, torusByteRules, facesRules, facesRefusal}
+use Rattle.model.specs.Refusals.{Rule, Test, refusalOf, numberOf, noneAt, sized, lengthRule, sideRule, planarSideRule, decodeRules, decodeRefusal, verdictRules, verdictRefusal, distanceRules, distanceRefusal, gameRules, gameRefusal, torusRules, torusRefusal, planarRules, planarRefusal, layerRules, readingRules, stackRules, stackRefusal, torusByteRules, facesRules, facesRefusal}
 use Rattle.model.specs.Outcomes.{answer, keyOrNone, decodeAnswer, judgedOrNone, verdictAnswer, distanceOf, distanceAnswer, torusAnswer}
 use Rattle.model.specs.RoundsOutcomes.{roundsOrNone, roundsAnswer}
 use Rattle.model.specs.FacesOutcomes.{torusSheet, facesAnswer}
 use Rattle.model.specs.Distance.{fewest}
+use Rattle.model.specs.Game.{forced}
+use Rattle.model.specs.GameOutcomes.{gameAnswer}
 use Rattle.model.specs.Text.{refused, readText}
 use Rattle.model.specs.TextOutcomes.{Buffers, readRules, readRefusal, readOutcome, counts, writeRules, writeRefusal}
 use Rattle.model.specs.Words.{wordCount, unpackedSheet, litTotal}
@@ -40,7 +43,7 @@ use Rattle.model.specs.WordOutcomes.{packAnswer, litAnswer, listAnswer, decodeP
 use Rattle.model.specs.Precedence.{Applies, here, there, NoneApplies, Decides, Smallest, AnswersSmallest}
 use Rattle.model.proofs.Contradiction.{zero-one}
 use Rattle.model.proofs.Xor.{and-left, and-right, not-false-true}
-use Rattle.model.proofs.RuleNumbers.{decode-numbers, verdict-numbers, distance-numbers, torus-numbers, planar-numbers, stack-numbers, faces-numbers, read-numbers, write-numbers, pack-numbers, unpack-numbers, lit-numbers, decode-packed-numbers}
+use Rattle.model.proofs.RuleNumbers.{decode-numbers, verdict-numbers, distance-numbers, torus-numbers, planar-numbers, stack-numbers, faces-numbers, read-numbers, write-numbers, pack-numbers, unpack-numbers, lit-numbers, decode-packed-numbers, game-numbers}
 use Rattle.theory.proofs.Precedence.{empty-applies, decides-exactly, earlier-kept, other-number}
 use Rattle.theory.proofs.SmallestNumber.{smallest-exactly, answers-smallest}
 
@@ -101,6 +104,17 @@ pub distance-answers : (B : Board) (shown : List ℕ) (q : Refusal) → Applies 
     → AnswersSmallest (distanceRules B shown) distance.Refused (distanceAnswer B shown)
 unfolding distanceAnswer distanceRefusal
 distance-answers B shown = answers-smallest (distance-numbers B shown) refl distance.Refused (distanceOf (fewest B))
+
+-- The game
+
+pub game-smallest : (B : Board) (position : List ℕ) (r : Refusal) → (gameRefusal B position ≡ some r) ↔ Smallest (gameRules B position) r
+unfolding gameRefusal
+game-smallest B position = smallest-exactly (game-numbers B position) refl
+
+pub game-answers : (B : Board) (position : List ℕ) (q : Refusal) → Applies (gameRules B position) q
+    → AnswersSmallest (gameRules B position) game.Refused (gameAnswer B position)
+unfolding gameAnswer gameRefusal
+game-answers B position = answers-smallest (game-numbers B position) refl game.Refused (game.Position (forced B position))
 
 -- The reader
 

@@ -58,11 +58,11 @@ fewest-reached B (suc e) D =
     lesser-reached B (fewestFrom B e D) (fewestFrom B e (with e D)) (fewest-reached B e D) (fewest-reached B e (with e D))
 
 -- E is made of D, whose edges are k or more, and of edges below k.
-record Made (B : Board) (k : ℕ) (D E : Set) : Type 0 where
-  above : (i : ℕ) → k ≤ i → i < edges B → D i ≡ E i
-  below : (i : ℕ) → i < k → D i ≡ false
+pub record Made (B : Board) (k : ℕ) (D E : Set) : Type 0 where
+  pub above : (i : ℕ) → k ≤ i → i < edges B → D i ≡ E i
+  pub below : (i : ℕ) → i < k → D i ≡ false
 
-made-with : (B : Board) (e : ℕ) (D E : Set) → E e ≡ true → Made B (suc e) D E → Made B e (with e D) E
+pub made-with : (B : Board) (e : ℕ) (D E : Set) → E e ≡ true → Made B (suc e) D E → Made B e (with e D) E
 made-with B e D E p m =
     record { above = λ i h l. go i h l (eqb i e) refl; below = λ i h. rw (ne-eqb i e (λ q. omega arith)) (m .below i (omega arith)) }
   where
@@ -70,12 +70,16 @@ made-with B e D E p m =
     go i h l true q = sym (ap E (eqb-true i e q) ∙ p)
     go i h l false q = m .above i (omega (arith, eqb-false i e q)) l
 
-made-without : (B : Board) (e : ℕ) (D E : Set) → E e ≡ false → Made B (suc e) D E → Made B e D E
+pub made-without : (B : Board) (e : ℕ) (D E : Set) → E e ≡ false → Made B (suc e) D E → Made B e D E
 made-without B e D E p m = record { above = λ i h l. go i h l (eqb i e) refl; below = λ i h. m .below i (omega arith) }
   where
     go : (i : ℕ) → e ≤ i → i < edges B → (t : Bool) → eqb i e ≡ t → D i ≡ E i
     go i h l true q = let same = eqb-true i e q in m .below i (omega arith) ∙ sym (ap E same ∙ p)
     go i h l false q = m .above i (omega (arith, eqb-false i e q)) l
+
+-- every set is made of none and of all edges
+pub made-whole : (B : Board) (E : Set) → Made B (edges B) (λ i. false) E
+made-whole B E = record { above = λ i h l. absurd (not-le-of-lt l h); below = λ i h. refl }
 
 -- the search finds no more than s
 abbrev AtMost : Option ℕ → ℕ → Type 0
@@ -107,7 +111,7 @@ fewest-bounds B (suc e) D E m w = go (λ X n. fewest-bounds B e X E n w) (E e) r
 fewest-at-most : (B : Board) (D : Set) → winds B D ≡ true → AtMost (fewest B) (size B D)
 unfolding fewest
 fewest-at-most B D w =
-    fewest-bounds B (edges B) (λ i. false) D (record { above = λ i h l. absurd (not-le-of-lt l h); below = λ i h. refl }) w
+    fewest-bounds B (edges B) (λ i. false) D (made-whole B D) w
 
 -- it is reached by a winding loop, and no winding loop is smaller
 pub fewest-least : (B : Board) (d : ℕ) → fewest B ≡ some d → Least B d

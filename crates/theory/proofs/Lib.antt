@@ -1,3 +1,5 @@
+pub mod BitLaws
+pub mod PackedBits
 pub mod GrowthRun
 pub mod OddMembers
 pub mod Syndromes

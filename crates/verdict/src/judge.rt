@@ -15,7 +15,7 @@ ghost use Rattle.model.specs.Verdict.{judged};
 ghost use Rattle.verdict.specs.Judging.{Judgeable};
 
 // Off with the smallest vertex, not open, at which the syndromes differ; otherwise same or wound, by the marks of the two sets together.
-pub(crate) fn judge(
+pub fn judge(
     vertices: usize,
     ends: &[u16],
     marks: &[u8],

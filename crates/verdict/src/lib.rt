@@ -1,7 +1,7 @@
 // The verdict on a handed-in set.
 mod crossings;
 mod difference;
-mod judge;
+pub mod judge;
 
 use crate::judge::judge;
 use board::outcome::Check;

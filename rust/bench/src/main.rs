@@ -1,6 +1,6 @@
 //! Prints the library's times beside those of programs with the same steps that keep no boundary
 //! sizes: one plain, one tuned with care, and one that counts from the other side; its times of
-//! decoding in rounds; and what a growth, each of the other calls and a packed sheet costs.
+//! decoding in rounds; and what a growth, each of the other calls, a packed sheet and a game costs.
 //!
 //! All are built for release and run on one machine, on the same seeded sheets and into the same
 //! buffers, which are not cleared in between. Keys are compared on all sheets before a time is taken.
@@ -9,6 +9,7 @@
 mod boards;
 mod calls;
 mod decoders;
+mod game;
 mod growths;
 mod machine;
 mod packed;
@@ -29,4 +30,6 @@ fn main() {
     calls::table();
     println!();
     packed::table();
+    println!();
+    game::table();
 }

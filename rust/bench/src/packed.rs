@@ -1,4 +1,4 @@
-//! The last table: packing and unpacking a full sheet, and decoding a packed sheet beside unpacking it
+//! The fifth table: packing and unpacking a full sheet, and decoding a packed sheet beside unpacking it
 //! first.
 
 use std::hint::black_box;

@@ -2,9 +2,10 @@
 //!
 //! Nothing here is clever or fast: each section of document 01 is one module, in its words, and so are
 //! growing in rounds ([`rounds`]), open sides ([`open_sides`], [`planar`]), repeated readings
-//! ([`stack`]), faces as evidence ([`faces`]) and packed sheets ([`packed`]), which document 02 adds.
-//! Beside them stand a second way to find the number of a malformed line ([`line_numbers`]), a seeded
-//! generator of random numbers, and the boards that decoders are tried on.
+//! ([`stack`]), faces as evidence ([`faces`]), packed sheets ([`packed`]) and the game of Winder and
+//! Blocker ([`game`]), which document 02 adds. Beside them stand a second way to find the number of a
+//! malformed line ([`line_numbers`]), a seeded generator of random numbers, and the boards that
+//! decoders are tried on.
 //!
 //! A set of vertices or edges is a slice with a byte for each, 0 or 1, as the calls are lent it.
 
@@ -14,6 +15,7 @@ pub mod damage;
 pub mod decoding;
 pub mod distance;
 pub mod faces;
+pub mod game;
 pub mod generators;
 pub mod growth;
 pub mod line_numbers;

@@ -2,9 +2,10 @@
 //! document 02, K3, equal ends break no rule, so that number 5 never occurs; by K5 the open bytes are
 //! tested after 8 and 9 and before 10; by K1 a stack's rounds are tested after its side and before any
 //! length; by K9 the verdict with faces tests the side before all else; by K7 words are tested right
-//! after 8.
+//! after 8; by K11 the game tests its own three after the board's.
 
 use crate::board::{Board, EDGE_LIMIT, Sheet, VERTEX_LIMIT};
+use crate::game::GAME_LIMIT;
 use crate::packed::{PackedSheet, WORD, is_set, unpacked, words_of};
 
 /// Why a call refuses: the number of the rule that is broken, and where.
@@ -122,13 +123,29 @@ pub fn faces(side: u32, syndrome: &[u8], loss: &[u8], handed: &[u8], faces: usiz
     bytes(9, handed)
 }
 
-/// The tests of the distance, which is lent a buffer of this length to fill.
-pub fn distance(board: &Board, shown: usize) -> Test {
+/// Numbers 1 to 4, 6 and 16 of a call that is lent a board and one more buffer of so many bytes, which
+/// must have one for each edge.
+fn whole_board(board: &Board, further: usize) -> Test {
     let count = board.edges();
-    let lengths = [(board.marks.len(), count), (board.open.len(), board.vertices), (shown, count)];
+    let lengths =
+        [(board.marks.len(), count), (board.open.len(), board.vertices), (further, count)];
     counts(board, &lengths)?;
     edges(board)?;
     bytes(16, &board.open)
+}
+
+/// The tests of the distance, which is lent a buffer of this length to fill.
+pub fn distance(board: &Board, shown: usize) -> Test {
+    whole_board(board, shown)
+}
+
+/// The tests of the game.
+pub fn game(board: &Board, position: &[u8]) -> Test {
+    whole_board(board, position.len())?;
+    unless(board.edges() <= GAME_LIMIT, 20, 0)?;
+    first_place(21, position.len(), |edge| position[edge] > 2)?;
+    let [winder, blocker] = [1, 2].map(|by| position.iter().filter(|&&byte| byte == by).count());
+    unless(winder == blocker || winder == blocker + 1, 22, 0)
 }
 
 /// The tests of the torus builder, which is lent buffers of these lengths to fill. The lengths are

@@ -8,6 +8,9 @@ pub const VERTICES: usize = 1024;
 /// [`read`](crate::read) is lent; it is lent twice as many ends.
 pub const EDGES: usize = 4096;
 
+/// The largest edge count of a board that [`game`](crate::game) is lent.
+pub const GAME_EDGES: usize = 10;
+
 /// The largest number of bytes of a text that is read or written.
 pub const TEXT: usize = 65_536;
 

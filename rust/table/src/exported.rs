@@ -218,4 +218,16 @@ unsafe extern "C" {
         list: *mut u16,
         list_count: usize,
     ) -> u64;
+
+    pub fn surface_game(
+        vertices: usize,
+        ends: *const u16,
+        ends_count: usize,
+        marks: *const u8,
+        marks_count: usize,
+        open: *const u8,
+        open_count: usize,
+        position: *const u8,
+        position_count: usize,
+    ) -> u64;
 }

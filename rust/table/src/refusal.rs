@@ -3,7 +3,7 @@
 use core::error::Error;
 use core::fmt;
 
-use crate::{EDGES, LOSS_WORDS, TEXT, VERTICES};
+use crate::{EDGES, GAME_EDGES, LOSS_WORDS, TEXT, VERTICES};
 
 /// The rule that is broken, with the place where it is broken.
 ///
@@ -67,6 +67,12 @@ pub enum Refusal {
     PlanarSide(u32),
     /// Number 19: this word, of the syndrome's or of the loss's, has a bit past the last item.
     PastLast(usize),
+    /// Number 20: the board of a game has more than [`GAME_EDGES`](crate::GAME_EDGES) edges.
+    GameEdges,
+    /// Number 21: this edge has a position byte above 2.
+    PositionByte(usize),
+    /// Number 22: in the position Winder has neither as many edges as Blocker nor one more.
+    MoveCount,
 }
 
 impl Refusal {
@@ -92,6 +98,9 @@ impl Refusal {
             Refusal::LitOpen(_) => 17,
             Refusal::PlanarSide(_) => 18,
             Refusal::PastLast(_) => 19,
+            Refusal::GameEdges => 20,
+            Refusal::PositionByte(_) => 21,
+            Refusal::MoveCount => 22,
         }
     }
 
@@ -104,7 +113,9 @@ impl Refusal {
             | Refusal::BufferLength
             | Refusal::TextLength
             | Refusal::TextBuffer
-            | Refusal::RoundCount => 0,
+            | Refusal::RoundCount
+            | Refusal::GameEdges
+            | Refusal::MoveCount => 0,
             Refusal::EndRange(place)
             | Refusal::MarkRange(place)
             | Refusal::SyndromeByte(place)
@@ -114,16 +125,19 @@ impl Refusal {
             | Refusal::MalformedLine(place)
             | Refusal::OpenByte(place)
             | Refusal::LitOpen(place)
-            | Refusal::PastLast(place) => place as u64,
+            | Refusal::PastLast(place)
+            | Refusal::PositionByte(place) => place as u64,
             Refusal::TorusSide(side) | Refusal::PlanarSide(side) => side as u64,
         }
     }
 
     /// The refusal with this number and place, where there is one. An edge, a vertex, a line or a word
-    /// is below the limits; a text has at most one line more than bytes.
+    /// is below the limits; a text has at most one line more than bytes. The position bytes of a board
+    /// with too many edges for a game are not looked at.
     pub(crate) fn new(number: u8, place: u64) -> Option<Refusal> {
         let at = usize::try_from(place).ok()?;
         let edge = (at < EDGES).then_some(at);
+        let game_edge = (at < GAME_EDGES).then_some(at);
         let vertex = (at < VERTICES).then_some(at);
         let word = (at < LOSS_WORDS).then_some(at);
         let refusal = match number {
@@ -145,6 +159,9 @@ impl Refusal {
             17 => Refusal::LitOpen(vertex?),
             18 => Refusal::PlanarSide(u32::try_from(place).ok()?),
             19 => Refusal::PastLast(word?),
+            20 => Refusal::GameEdges,
+            21 => Refusal::PositionByte(game_edge?),
+            22 => Refusal::MoveCount,
             _ => return None,
         };
         (refusal.place() == place).then_some(refusal)
@@ -184,6 +201,11 @@ impl fmt::Display for Refusal {
                 write!(to, "side {side} of a planar board is outside 2 to 31")
             }
             Refusal::PastLast(word) => write!(to, "word {word} has a bit past the last item"),
+            Refusal::GameEdges => write!(to, "the board of a game has more than 10 edges"),
+            Refusal::PositionByte(edge) => write!(to, "edge {edge} has a position byte above 2"),
+            Refusal::MoveCount => {
+                write!(to, "Winder has neither as many edges as Blocker nor one more")
+            }
         }
     }
 }
@@ -195,7 +217,7 @@ mod tests {
     use super::Refusal;
 
     /// Each number with its smallest and its largest place.
-    const PLACES: [(u8, u64, u64); 18] = [
+    const PLACES: [(u8, u64, u64); 21] = [
         (1, 0, 0),
         (2, 0, 0),
         (3, 0, 0),
@@ -214,6 +236,9 @@ mod tests {
         (17, 0, 1023),
         (18, 0, u32::MAX as u64),
         (19, 0, 63),
+        (20, 0, 0),
+        (21, 0, 9),
+        (22, 0, 0),
     ];
 
     #[test]
@@ -233,7 +258,7 @@ mod tests {
 
     #[test]
     fn other_numbers_are_no_refusal() {
-        for number in (20..=u8::MAX).chain([0, 5]) {
+        for number in (23..=u8::MAX).chain([0, 5]) {
             for place in [0, 1, 4095] {
                 assert_eq!(Refusal::new(number, place), None, "{number}");
             }

@@ -49,6 +49,14 @@ pub fn decode_rounds(sheet: &Sheet) -> Result<RoundsKey, Refusal> {
     Ok(key)
 }
 
+/// The game from a position that is not refused.
+pub fn game(board: &Board, position: &[u8]) -> table::Game {
+    match table::game(lent(board), position) {
+        Ok(game) => game,
+        Err(refusal) => panic!("{refusal}: {position:?} on {board:?}"),
+    }
+}
+
 /// The distance of a board that keeps the rules, with the loop that was written.
 pub fn distance(board: &Board) -> (Option<usize>, Vec<u8>) {
     let mut shown = vec![0; board.edges()];

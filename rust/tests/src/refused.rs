@@ -6,7 +6,7 @@ use reference::board::{Board, Sheet};
 use reference::packed::PackedSheet;
 use table::Refusal;
 
-use crate::{agrees, packed};
+use crate::{agrees, game, packed};
 
 /// The number and the place of a refusal.
 pub fn refused<T: Debug>(answer: Result<T, Refusal>) -> (u8, u64) {
@@ -43,20 +43,23 @@ pub fn sheet_refused(sheet: &Sheet) -> (u8, u64) {
     refusal
 }
 
-/// They and the distance refuse the sheet's board alike.
+/// They, the distance and the game refuse the sheet's board alike.
 pub fn board_refused(sheet: &Sheet) -> (u8, u64) {
     let refusal = refused(agrees::distance(&sheet.board));
+    assert_eq!(refused(game::game(&sheet.board, &vec![0; sheet.board.edges()])), refusal);
     assert_eq!(sheet_refused(sheet), refusal);
     refusal
 }
 
-/// None of the six calls refuses.
+/// None of the seven calls refuses, but for the game where there are too many edges.
 pub fn none_refuses(sheet: &Sheet) {
     agrees::decode(sheet).expect("decoding");
     agrees::decode_rounds(sheet).expect("decoding in rounds");
     packed::decode_packed(&PackedSheet::new(sheet)).expect("decoding packed");
     assert!(agrees::verdict(sheet, &vec![0; sheet.board.edges()]).is_ok(), "the verdict");
     agrees::distance(&sheet.board).expect("distance");
+    let played = game::game(&sheet.board, &vec![0; sheet.board.edges()]);
+    assert_eq!(played.is_ok(), sheet.board.edges() <= 10, "the game: {played:?}");
     agrees::write(sheet).expect("writing");
 }
 

@@ -84,7 +84,7 @@ fn in_words(parameters: &[String]) -> Vec<String> {
 #[test]
 fn declared_as_exported() {
     let exported = functions(RATTLE, "pub extern \"C\" fn ", in_rattle);
-    assert_eq!(exported.len(), 15);
+    assert_eq!(exported.len(), 16);
     let [decode, rounds, packed] = [&exported[0], &exported[1], &exported[2]];
     assert_eq!((decode.0.as_str(), decode.1.len()), ("surface_decode", 8));
     assert_eq!((rounds.0.as_str(), &rounds.1), ("surface_decode_rounds", &decode.1));

@@ -1,14 +1,14 @@
 //! The C header, the page of rules and the Rust crate say the same: limits, numbers, and a sentence
 //! for each number. The numbers are those of the Rattle source.
 
-use table::{EDGES, LOSS_WORDS, Refusal, SYNDROME_WORDS, TEXT, VERTICES};
+use table::{EDGES, GAME_EDGES, LOSS_WORDS, Refusal, SYNDROME_WORDS, TEXT, VERTICES};
 
 const HEADER: &str = include_str!("../../../include/surface_table.h");
 const RULES: &str = include_str!("../../../docs/RULES.md");
 const SOURCE: &str = include_str!("../../../crates/model/src/refusal.rt");
 
 /// Every refusal, in the order of the numbers, at place 7 where it has a place. None has number 5.
-const REFUSALS: [Refusal; 18] = [
+const REFUSALS: [Refusal; 21] = [
     Refusal::VertexCount,
     Refusal::EndCount,
     Refusal::BufferLength,
@@ -27,6 +27,9 @@ const REFUSALS: [Refusal; 18] = [
     Refusal::LitOpen(7),
     Refusal::PlanarSide(7),
     Refusal::PastLast(7),
+    Refusal::GameEdges,
+    Refusal::PositionByte(7),
+    Refusal::MoveCount,
 ];
 
 /// The number that is not in use.
@@ -79,12 +82,14 @@ fn place_of(refusal: Refusal) -> &'static str {
 #[test]
 fn numbers_but_5() {
     let numbers: Vec<u8> = REFUSALS.iter().map(|refusal| refusal.number()).collect();
-    assert_eq!(numbers, [1, 2, 3, 4, 6, 7, 8, 9, 10, 11, 12, 13, 14, 15, 16, 17, 18, 19]);
+    assert_eq!(numbers, (1..=22).filter(|&number| number != 5).collect::<Vec<u8>>());
 }
 
 #[test]
 fn limits() {
-    for (name, limit) in [("VERTICES", VERTICES), ("EDGES", EDGES), ("TEXT", TEXT)] {
+    for (name, limit) in
+        [("VERTICES", VERTICES), ("EDGES", EDGES), ("GAME_EDGES", GAME_EDGES), ("TEXT", TEXT)]
+    {
         let header = between(&format!("#define SURFACE_{name} "), &[' ']);
         assert_eq!(header, Some(limit.to_string().as_str()), "{name}");
     }
@@ -144,7 +149,7 @@ fn number_that_is_not_in_use() {
 
 /// The tests of each call, in order, as the page of rules must list them: 16 and 17 come after 8 and 9
 /// and before 10, 12 and 14, 19 in the place of 7 and 8, and a side and rounds before the lengths.
-const TESTS: [(&str, &str); 15] = [
+const TESTS: [(&str, &str); 16] = [
     ("decode", "1 2 3 4 6 7 8 16 17 10"),
     ("decode_rounds", "1 2 3 4 6 7 8 16 17 10"),
     ("decode_packed", "1 2 3 4 6 19 16 17 10"),
@@ -160,6 +165,7 @@ const TESTS: [(&str, &str); 15] = [
     ("unpack", "1 2 3 19"),
     ("lit_total", "1 3 19"),
     ("list_lit", "1 3 19"),
+    ("game", "1 2 3 4 6 16 20 21 22"),
 ];
 
 #[test]

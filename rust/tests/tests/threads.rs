@@ -6,7 +6,7 @@ use reference::generators::{Kind, opened, sheet};
 use reference::torus::torus;
 use reference::{PackedSheet, Random, Sheet};
 use table_tests::packed::{Listing, Packing, Unpacking, decode_packed, lit_total};
-use table_tests::{agrees, library};
+use table_tests::{agrees, game, library};
 
 const THREADS: usize = 4;
 
@@ -116,6 +116,12 @@ fn all_calls_at_once() {
                 let lit = Listing::new(board.vertices, &words.0).call().expect("a list");
                 assert_eq!(lit_total(board.vertices, &words.0), Ok(lit.len()));
                 let _ = decode_packed(&PackedSheet::new(sheet));
+            }
+        });
+        scope.spawn(|| {
+            for Sheet { board, .. } in sheets {
+                let played = game::game(board, &vec![0; board.edges()]);
+                assert_eq!(played.is_ok(), board.edges() <= 10, "{played:?}");
             }
         });
     });

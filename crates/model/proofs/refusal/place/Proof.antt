@@ -86,47 +86,59 @@ enum-known-refusal-12 c = search needs
 cast-result-9 : tie.Need-cast-result-9
 cast-result-9 c = search needs
 
+enum-told-7 : tie.Need-enum-told-7
+enum-told-7 c = search needs
+
+enum-known-refusal-13 : tie.Need-enum-known-refusal-13
+enum-known-refusal-13 c = search needs
+
+cast-result-10 : tie.Need-cast-result-10
+cast-result-10 c = search needs
+
+enum-told-8 : tie.Need-enum-told-8
+enum-told-8 c = search needs
+
 returns : tie.Need-returns
-returns c = search needs
+returns c = sym (ap placeOf (c .enum-told .given .1))
 
 returns-2 : tie.Need-returns-2
-returns-2 c = search needs
+returns-2 c = sym (ap placeOf (c .enum-told2 .given .1))
 
 returns-3 : tie.Need-returns-3
-returns-3 c = search needs
+returns-3 c = sym (ap placeOf (c .enum-told3 .given .1))
 
 returns-4 : tie.Need-returns-4
-returns-4 c = search needs
+returns-4 c = sym (ap placeOf (c .before .before .refusal .given .1))
 
 returns-5 : tie.Need-returns-5
-returns-5 c = search needs
+returns-5 c = sym (ap placeOf (c .before .before .refusal2 .given .1))
 
 returns-6 : tie.Need-returns-6
-returns-6 c = search needs
+returns-6 c = sym (ap placeOf (c .before .before .refusal3 .given .1))
 
 returns-7 : tie.Need-returns-7
-returns-7 c = search needs
+returns-7 c = sym (ap placeOf (c .before .before .refusal4 .given .1))
 
 returns-8 : tie.Need-returns-8
-returns-8 c = search needs
+returns-8 c = sym (ap placeOf (c .before .before .refusal5 .given .1))
 
 returns-9 : tie.Need-returns-9
-returns-9 c = search needs
+returns-9 c = sym (ap placeOf (c .before .before .refusal6 .given .1))
 
 returns-10 : tie.Need-returns-10
-returns-10 c = search needs
+returns-10 c = sym (ap placeOf (c .before .refusal7 .given .1))
 
 returns-11 : tie.Need-returns-11
-returns-11 c = search needs
+returns-11 c = sym (ap placeOf (c .enum-told4 .given .1))
 
 returns-12 : tie.Need-returns-12
-returns-12 c = search needs
+returns-12 c = sym (ap placeOf (c .before .refusal8 .given .1))
 
 returns-13 : tie.Need-returns-13
-returns-13 c = search needs
+returns-13 c = sym (ap placeOf (c .enum-told5 .given .1))
 
 returns-14 : tie.Need-returns-14
-returns-14 c = search needs
+returns-14 c = sym (ap placeOf (c .enum-told6 .given .1))
 
 returns-15 : tie.Need-returns-15
 returns-15 c = sym (ap placeOf (c .before .before .refusal9 .given .1))
@@ -135,10 +147,19 @@ returns-16 : tie.Need-returns-16
 returns-16 c = sym (ap placeOf (c .before .before .refusal10 .given .1))
 
 returns-17 : tie.Need-returns-17
-returns-17 c = search needs
+returns-17 c = sym (ap placeOf (c .before .refusal11 .given .1))
 
 returns-18 : tie.Need-returns-18
 returns-18 c = sym (ap placeOf (c .before .before .refusal12 .given .1))
+
+returns-19 : tie.Need-returns-19
+returns-19 c = sym (ap placeOf (c .enum-told7 .given .1))
+
+returns-20 : tie.Need-returns-20
+returns-20 c = sym (ap placeOf (c .before .before .refusal13 .given .1))
+
+returns-21 : tie.Need-returns-21
+returns-21 c = sym (ap placeOf (c .enum-told8 .given .1))
 
 pub place-spec : {M : Type 1} → statement M
 place-spec =
@@ -171,6 +192,10 @@ place-spec =
     enum-known-refusal-11
     enum-known-refusal-12
     cast-result-9
+    enum-told-7
+    enum-known-refusal-13
+    cast-result-10
+    enum-told-8
     returns
     returns-2
     returns-3
@@ -188,4 +213,7 @@ place-spec =
     returns-15
     returns-16
     returns-17
-    returns-18)
+    returns-18
+    returns-19
+    returns-20
+    returns-21)

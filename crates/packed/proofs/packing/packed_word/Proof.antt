@@ -6,8 +6,8 @@ use denote.Ref.{now}
 use lib.ListN.{length, getD}
 use Rattle.model.specs.Sums.{ones}
 use Rattle.model.specs.Words.{itemsOf}
-use Rattle.packed.specs.Packing.{PackedFrom}
-use Rattle.packed.proofs.PackedWords.{packed-none, packed-more, packed-room, packed-all, item-byte}
+use Rattle.theory.proofs.PackedBits.{PackedFrom, packed-none, packed-more, packed-room}
+use Rattle.packed.proofs.PackedWords.{packed-all, item-byte}
 use Rattle.packed.proofs.packing.packed_word.Statement.{statement}
 use Rattle.packed.proofs.packing.packed_word.Tie as tie
 

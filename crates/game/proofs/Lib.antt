@@ -1,0 +1,11 @@
+pub mod MaskLaws
+pub mod HeldLoops
+pub mod LoopBytes
+pub mod WoundSets
+pub mod PlayLaws
+pub mod Moves
+pub mod Standing
+pub mod Strategies
+pub mod GameTests
+pub mod SoundPlay
+pub mod GameOutcome

@@ -1,0 +1,68 @@
+-- Masks: an edge taken out of one and put into another. Assumes nothing.
+use Prim.Native.Nat.{ℕ, zero, suc, _+_, _-_, _^_, _≤_, _<_}
+use mathlib.Core.Path.{_≡_, refl, sym, ap, _∙_}
+use mathlib.Core.Bool.{Bool, true, false, not, _&&_, false≢true}
+use native.Mathlib.Nat.{not-suc-le-zero, le-of-suc-le-suc, pow-succ', div-eq-of-lt}
+use native.Mathlib.Decide.{decLt}
+use native.Mathlib.Omega.{arith}
+use borrow.Author.Tests.{ne-eqb}
+use mir.Val.{boolByte}
+use lib.Dec.{eqb}
+use Rattle.model.specs.Sums.{Set, bit}
+use Rattle.model.specs.Words.{bitOf, numberWith}
+use Rattle.model.proofs.Bits.{bit-bound}
+use Rattle.model.proofs.EqualTests.{eqb-alike}
+use Rattle.theory.proofs.BitLaws.{number-cong, number-bit, number-of-bits}
+
+-- a truth value cast to a number
+pub cast-bit : (b : Bool) → boolByte b ≡ bit b
+cast-bit true = refl
+cast-bit false = refl
+
+-- the set without edge e
+abbrev pub without : ℕ → Set → Set
+without e D i = not (eqb i e) && D i
+
+-- an edge more is its power more
+pub number-more : (d e : ℕ) (f : Set) → e < d → f e ≡ true → numberWith d f ≡ numberWith d (without e f) + 2 ^ e
+unfolding numberWith
+number-more zero e f h p = absurd (not-suc-le-zero h)
+number-more (suc d) zero f h p =
+    let rest = number-cong d (λ k. f (suc k)) (λ k. without 0 f (suc k)) (λ k l. rw (ne-eqb (suc k) 0 (λ q. omega arith))) in
+    omega (arith, ap bit p, rest)
+number-more (suc d) (suc e) f h p =
+    let rest = number-more d e (λ k. f (suc k)) (le-of-suc-le-suc h) p in
+    let same =
+    number-cong d (without e (λ k. f (suc k))) (λ k. without (suc e) f (suc k))
+    (λ k l. ap (λ b. not b && f (suc k)) (eqb-alike k e (suc k) (suc e) (λ q. ap suc q) (λ q. omega arith)))
+    in
+    let first : bit (without (suc e) f 0) ≡ bit (f 0) = rw (ne-eqb 0 (suc e) (λ q. omega arith)) in
+    rw (pow-succ' 2 e) (omega (arith, rest, same, first))
+
+-- two sets without a common member: their masks have room for both
+pub apart-below : (d : ℕ) (f g : Set) → ((k : ℕ) → k < d → f k ≡ true → g k ≡ false) → numberWith d f + numberWith d g < 2 ^ d
+unfolding numberWith
+apart-below zero f g apart = omega arith
+apart-below (suc d) f g apart =
+    let rest = apart-below d (λ k. f (suc k)) (λ k. g (suc k)) (λ k h p. apart (suc k) (omega arith) p) in
+    rw (pow-succ' 2 d) (omega (arith, rest, one (f 0) (g 0) (apart 0 (omega arith))))
+  where
+    one : (a b : Bool) → (a ≡ true → b ≡ false) → bit a + bit b ≤ 1
+    one true b p = rw (p refl) (omega arith)
+    one false b p = omega (arith, bit-bound b)
+
+-- an edge of a mask: its power is no more than the mask
+pub power-within : (x e : ℕ) → bitOf x e ≡ true → 2 ^ e ≤ x
+power-within x e p = elim (decLt x (2 ^ e)) [ yes h ↦ absurd (false≢true (sym (none h) ∙ p)) | no h ↦ omega arith ]
+  where
+    none : x < 2 ^ e → bitOf x e ≡ false
+    none h = rw (div-eq-of-lt h)
+
+module _ (m x e : ℕ) (within : x < 2 ^ m) (edge : e < m) (there : bitOf x e ≡ true) where
+  -- the mask without it
+  pub mask-without : x - 2 ^ e ≡ numberWith m (without e (bitOf x))
+  mask-without = omega (arith, sym (number-of-bits m x within) ∙ number-more m e (bitOf x) edge there)
+
+  -- has the other edges
+  pub bits-without : (k : ℕ) → k < m → bitOf (x - 2 ^ e) k ≡ without e (bitOf x) k
+  bits-without k h = ap (λ y. bitOf y k) mask-without ∙ number-bit m (without e (bitOf x)) k h

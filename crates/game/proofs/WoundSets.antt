@@ -1,0 +1,99 @@
+-- The verdict on a set, beside no correction for no syndrome, is wound exactly where the set winds. Assumes nothing.
+use Prim.Native.Nat.{ℕ, _≤_, _<_}
+use mathlib.Core.Path.{_≡_, refl, sym, ap, _∙_}
+use mathlib.Core.Bool.{Bool, true, false, not}
+use mathlib.Core.List.{List}
+use mathlib.Core.Option.{Option, none, some}
+use native.Mathlib.Omega.{arith}
+use lib.Dec.{eqb}
+use lib.ListN.{getD, take, replicate, getD-replicate}
+use lib.Seq.{getD-take, length-take-le}
+use Rattle.model.specs.Sums.{Set, _⊕_, bit, ones, firstUpTo}
+use Rattle.model.specs.Board.{Board, edges, ValidBytes}
+use Rattle.model.specs.Syndrome.{syndrome}
+use Rattle.model.specs.Winding.{closed, winds, crossings, together}
+use Rattle.model.specs.Verdict.{differs, judgedAt, judged}
+use Rattle.model.specs.Words.{bitOf}
+use Rattle.model.proofs.Xor.{xor-false}
+use Rattle.model.proofs.Bits.{bit-bound, eqb-bit}
+use Rattle.model.proofs.SumLaws.{some-here, none-some, none-first, first-found}
+use Rattle.model.proofs.ListLaws.{front-long}
+use Rattle.theory.proofs.CrossedLines.{crossings-cong, winds-cong}
+use Rattle.verdict.specs.Judging.{Judgeable}
+use Rattle.game.specs.LoopTable.{isWound, Small, Spread}
+
+-- bytes that are all 0: at the front of an array of zeros
+module _ (n k : ℕ) (h : n ≤ k) where
+  pub zero-byte : (i : ℕ) → i < n → getD {A = ℕ} (take n (replicate k 0)) i 0 ≡ 0
+  zero-byte i l = getD-take n (replicate k 0) i 0 l ∙ getD-replicate k i 0 0 (omega arith)
+
+  pub zeros-out : (i : ℕ) → i < n → ones (take n (replicate k 0)) i ≡ false
+  zeros-out i l = ap (λ x. eqb x 1) (zero-byte i l)
+
+  pub zeros-valid : ValidBytes n (take n (replicate k 0))
+  zeros-valid = record { count = front-long n k 0 h; each = λ i l. rw (zero-byte i l) (omega arith) }
+
+module _ (B : Board) (S C H : Set) (unlit : (v : ℕ) → v < B .vertices → S v ≡ false) (empty : (e : ℕ) → e < edges B → C e ≡ false) where
+  differs-at : (v : ℕ) → v < B .vertices → (syndrome B H v ⊕ S v) ≡ syndrome B H v
+  differs-at v l = ap (λ b. syndrome B H v ⊕ b) (unlit v l) ∙ xor-false (syndrome B H v)
+
+  crossed : crossings B (together H C) ≡ crossings B H
+  crossed = crossings-cong B (together H C) H (λ e l. ap (λ b. H e ⊕ b) (empty e l) ∙ xor-false (H e))
+
+  -- a vertex at which the set ends: it isn't closed
+  off-open : (v : ℕ) → firstUpTo (B .vertices) (λ v. syndrome B H v ⊕ S v) ≡ some v → winds B H ≡ false
+  unfolding winds closed
+  off-open v p =
+      let f = first-found (B .vertices) (λ v. syndrome B H v ⊕ S v) v p in
+      rw (some-here (B .vertices) v (syndrome B H) (f .less) (sym (differs-at v (f .less)) ∙ f .holds))
+
+  -- none: it is, and what it crosses decides
+  met-closed : firstUpTo (B .vertices) (λ v. syndrome B H v ⊕ S v) ≡ none → winds B H ≡ not (eqb (crossings B H) 0)
+  unfolding winds closed
+  met-closed p =
+      let n = B .vertices in
+      rw (none-some n (syndrome B H) (λ v l. sym (differs-at v l) ∙ none-first n (λ v. syndrome B H v ⊕ S v) p v l))
+
+  pub wound-exactly : isWound (judged B S C H) ≡ winds B H
+  unfolding judged differs
+  wound-exactly = go (firstUpTo (B .vertices) (λ v. syndrome B H v ⊕ S v)) refl
+    where
+      by : (t : Bool) → eqb (crossings B (together H C)) 0 ≡ t → isWound (judgedAt none (crossings B (together H C))) ≡ not t
+      by true p = rw p
+      by false p = rw p
+
+      go : (o : Option ℕ) → firstUpTo (B .vertices) (λ v. syndrome B H v ⊕ S v) ≡ o
+          → isWound (judgedAt o (crossings B (together H C))) ≡ winds B H
+      go (some v) p = sym (off-open v p)
+      go none p = by (eqb (crossings B (together H C)) 0) refl ∙ ap (λ x. not (eqb x 0)) crossed ∙ sym (met-closed p)
+
+-- The same of a mask, by the bytes of its edges
+
+module _ (B : Board) (x : ℕ) (handed : List ℕ) (small : Small B) (spread : Spread x (edges B) handed) where
+  spread-byte : (e : ℕ) → e < edges B → getD (take (edges B) handed) e 0 ≡ bit (bitOf x e)
+  spread-byte e l = getD-take (edges B) handed e 0 l ∙ spread .at e l
+
+  pub mask-judgeable :
+      Judgeable B (take (B .vertices) (replicate 1024 0)) (take (edges B) handed) (take (edges B) (replicate 10 0))
+  mask-judgeable =
+      record {
+        inside = small .inside;
+        open-bytes = small .open-bytes;
+        syndrome-bytes = zeros-valid (B .vertices) 1024 (small .inside .vertex-limit);
+        handed-bytes =
+            record {
+              count = length-take-le (edges B) handed (omega (arith, spread .long, small .few));
+              each = λ e l. rw (spread-byte e l) (bit-bound (bitOf x e));
+            };
+        correction-bytes = zeros-valid (edges B) 10 (small .few);
+        unlit = λ v l o. zeros-out (B .vertices) 1024 (small .inside .vertex-limit) v l;
+      }
+
+  pub mask-wound :
+      isWound (judged B (ones (take (B .vertices) (replicate 1024 0))) (ones (take (edges B) (replicate 10 0))) (ones (take (edges B) handed)))
+      ≡ winds B (bitOf x)
+  mask-wound =
+      wound-exactly B _ _ _
+      (zeros-out (B .vertices) 1024 (small .inside .vertex-limit))
+      (zeros-out (edges B) 10 (small .few))
+      ∙ winds-cong B (ones (take (edges B) handed)) (bitOf x) (λ e l. ap (λ y. eqb y 1) (spread-byte e l) ∙ eqb-bit (bitOf x e))

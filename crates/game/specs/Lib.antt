@@ -1,0 +1,3 @@
+pub mod Playable
+pub mod Searching
+pub mod LoopTable
