@@ -1,6 +1,6 @@
 /* Plays on a triangle of which two sides are doubled: edges 0 and 1 join vertices 0 and 1, edge 2 joins 1 and 2, and edges 3 and 4, which
  * have mark 1, join 2 and 0. Winder wants an edge of each side. Says who wins from the start, and after each first move of hers; then plays
- * all games in which she takes the edge that is shown and Blocker any; then asks of positions that there are none of.
+ * all games in which she takes the edge that is shown and Blocker any; then asks about two positions that are refused.
  *
  *     rt staticlib table
  *     cc -Iinclude examples/c/game.c target/staticlib/libtable.a -o target/example && target/example

@@ -3,14 +3,14 @@
 use Prim.Native.Nat.{ℕ, _*_, _≤_}
 use mathlib.Core.Path.{_≡_, sym, _∙_}
 use mathlib.Core.Bool.{Bool, true, _&&_}
-use mathlib.Core.List.{List, [], _∷_, _++_}
+use mathlib.Core.List.{List, [], _∷_}
 use mathlib.Core.Option.{none}
 use native.Mathlib.Omega.{arith}
 use borrow.Author.Tests.{eqb-true, eq-eqb}
 use lib.ListN.{length}
 use Rattle.model.specs.Sums.{orElse}
 use Rattle.model.specs.Board.{Board, Sheet, Inside, Valid, ValidBytes, ValidSheet, edges, vertexLimit, edgeLimit}
-use Rattle.model.specs.Refusals.{Rule, refusalOf, edgesOf, sized, boardSized, countRules, edgeRules, boardRules, byteRules, bytesSized, plainRules, openRule, openRules, sheetRules}
+use Rattle.model.specs.Refusals.{Rule, refusalOf, edgesOf, sized, boardSized, countRules, edgeRules, boardRules, byteRules, bytesSized, plainRules, openRule, openRules, sheetRules, wholeRules}
 use Rattle.model.proofs.Xor.{and-left, and-right, and-both}
 use Rattle.model.proofs.RuleLists.{refusal-append}
 use Rattle.board.proofs.Failures.{neither-fails, each-passes, passes-each}
@@ -74,12 +74,9 @@ passes-board B others w =
     (passes-each (edgeRules B) (say-edges B (w .board)))
 
 -- A board with its open bytes, lent with other buffers: it is valid, and each of those has its length.
-pub record Wholed (B : Board) (others : Bool) : Type 0 where
+pub record Whole (B : Board) (others : Bool) : Type 0 where
   pub board : Valid B
   pub fit : others ≡ true
-
-abbrev pub wholeRules : Board → Bool → List Rule
-wholeRules B others = boardRules B others ++ (openRule (B .opened) ∷ [])
 
 -- its tests: those of the board, then that of the open bytes
 pub whole-tests : (B : Board) (others : Bool)
@@ -92,14 +89,14 @@ open-allowed B others p =
     let w = board-passes B others p in
     omega (arith, w .board .open-long, w .board .inside .vertex-limit)
 
-pub whole-passes : (B : Board) (others : Bool) → refusalOf (wholeRules B others) ≡ none → Wholed B others
+pub whole-passes : (B : Board) (others : Bool) → refusalOf (wholeRules B others) ≡ none → Whole B others
 whole-passes B others p =
     let t = neither-fails (refusalOf (boardRules B others)) _ (sym (whole-tests B others) ∙ p) in
     let w = board-passes B others (t .0) in
     let e = each-passes (openRule (B .opened) ∷ []) (t .1) in
     record { board = ranged-valid B (w .board) (bytes-say _ (B .opened) _ (w .board .open-long) (e .0)); fit = w .fit }
 
-pub passes-whole : (B : Board) (others : Bool) → Wholed B others → refusalOf (wholeRules B others) ≡ none
+pub passes-whole : (B : Board) (others : Bool) → Whole B others → refusalOf (wholeRules B others) ≡ none
 passes-whole B others w =
     whole-tests B others
     ∙ rw (passes-board B others (record { board = valid-ranged B (w .board); fit = w .fit }))

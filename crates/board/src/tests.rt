@@ -9,12 +9,11 @@ use crate::outcome::FoundEdge;
 use crate::outcome::FoundVertex;
 use model::refusal::Refusal;
 ghost use mathlib.Core.Path.{_≡_};
-ghost use mathlib.Core.List.{[], _∷_, _++_};
 ghost use Prim.Native.Nat.{_*_, _≤_};
 ghost use lib.ListN.{length};
 ghost use Rattle.model.specs.Board.{edgeLimit, vertexLimit, withoutOpen};
 ghost use Rattle.model.specs.Lent.{before, boardLent, sheetLent};
-ghost use Rattle.model.specs.Refusals.{refusalOf, edgesOf, edgeRules, byteRules, boardRules, plainRules, openRule, sheetRules, decodeRefusal, verdictRefusal, distanceRefusal};
+ghost use Rattle.model.specs.Refusals.{refusalOf, edgesOf, edgeRules, byteRules, boardRules, plainRules, sheetRules, decodeRefusal, verdictRefusal, distanceRefusal, wholeRules};
 ghost use Rattle.board.specs.Checks.{testOf};
 
 // The tests 4 and 6, once the counts have passed.
@@ -64,8 +63,7 @@ pub fn check_whole_board(
     opened: &[u8],
     others: bool,
 ) -> Check
-    ensures { λ r.
-        ⌜ testOf r ≡ refusalOf (boardRules (boardLent vertices ends marks opened) others ++ (openRule (before opened) ∷ [])) ⌝ }
+    ensures { λ r. ⌜ testOf r ≡ refusalOf (wholeRules (boardLent vertices ends marks opened) others) ⌝ }
 {
     if let Check::Failed(refusal) = check_board(vertices, ends, marks, opened, others) {
         return Check::Failed(refusal);

@@ -1,6 +1,6 @@
 -- The search from a position that passes the tests finds what the model says, and that is the outcome. Assumes nothing.
 use Prim.Native.Nat.{ℕ, _^_}
-use mathlib.Core.Path.{_≡_, ap, _∙_}
+use mathlib.Core.Path.{_≡_, sym, ap, _∙_}
 use mathlib.Core.Logic.{_≢_}
 use mathlib.Core.List.{List}
 use mathlib.Core.Option.{none, some}
@@ -9,25 +9,23 @@ use borrow.Author.Tests.{eq-eqb, ne-eqb}
 use lib.ListN.{length}
 use Rattle.model.specs.declared.answers.Player.the-variants.{Winder, Blocker}
 use Rattle.model.specs.declared.answers.Forced.{Forced}
-use Rattle.model.specs.declared.answers.Game.the-variants.{Position, Refused}
+use Rattle.model.specs.declared.answers.Game.the-variants.{Named, Refused}
 use Rattle.model.specs.declared.refusal.Refusal.{Refusal}
 use Rattle.model.specs.Board.{Board, edges}
-use Rattle.model.specs.Words.{numberWith}
+use Rattle.model.specs.Sums.{countUpTo}
+use Rattle.model.specs.Words.{bitOf, numberWith}
 use Rattle.model.specs.Game.{isFree, heldBy, freeCount, heldCount, winderToMove, blockerToMove, forced}
 use Rattle.model.specs.Refusals.{gameRefusal}
 use Rattle.model.specs.GameOutcomes.{gameAnswer, Plays, PlaysSoundly}
+use Rattle.model.proofs.SumLaws.{count-cong}
+use Rattle.theory.proofs.BitLaws.{number-bit}
 use Rattle.game.specs.Playable.{Playable}
 use Rattle.game.specs.Searching.{Searchable, windFrom, blockFrom}
-use Rattle.game.specs.LoopTable.{Small, Filled}
+use Rattle.game.specs.LoopTable.{Filled}
 use Rattle.game.proofs.MaskLaws.{apart-below}
 use Rattle.game.proofs.Moves.{free-unheld}
 use Rattle.game.proofs.Standing.{Stands, winds-alike, blocks-alike}
 use Rattle.game.proofs.SoundPlay.{soundly}
-
--- the board is small enough for the table
-pub playable-small : (B : Board) (p : List ℕ) → Playable B p → Small B
-playable-small B p play =
-    record { inside = play .board .inside; open-bytes = play .board .open-bytes .count; few = play .few }
 
 -- the masks and the count that the search begins with
 module _ (B : Board) (p loops : List ℕ) (play : Playable B p) (filled : Filled B (2 ^ edges B) loops) {h f : ℕ}
@@ -40,11 +38,19 @@ module _ (B : Board) (p loops : List ℕ) (play : Playable B p) (filled : Filled
         free = free ∙ ap (λ m. numberWith m (isFree p)) (play .long);
       }
 
-  pub searchable : Searchable loops (edges B) h f
-  searchable =
+  pub searchable : {k : ℕ} → k ≡ freeCount p → Searchable loops (edges B) h f k
+  searchable left =
       let m = edges B in
       let room = apart-below m (isFree p) (heldBy Winder p) (λ e l q. free-unheld Winder p e q) in
-      record { few = play .few; long = filled .long; room = omega (arith, stands .held, stands .free, room) }
+      record {
+        few = play .few;
+        long = filled .long;
+        room = omega (arith, stands .held, stands .free, room);
+        free-edges =
+            left
+            ∙ ap (λ n. countUpTo n (isFree p)) (play .long)
+            ∙ count-cong m (isFree p) (bitOf f) (λ e l. sym (ap (λ x. bitOf x e) (stands .free) ∙ number-bit m (isFree p) e l));
+      }
 
   -- where each has as many edges Winder begins, and else Blocker
   pub winder-begins : {k w b : ℕ} {r : Forced} → k ≡ freeCount p → w ≡ heldCount Winder p → b ≡ heldCount Blocker p → w ≡ b
@@ -70,8 +76,8 @@ module _ (B : Board) (p : List ℕ) where
       let is : Refused n ≡ gameAnswer B p = rw t in
       (record { result = is }, soundly B p (Refused n) is)
 
-  pub played : {f : Forced} → gameRefusal B p ≡ none → f ≡ forced B p → Plays B p (Position f) × PlaysSoundly B p (Position f)
+  pub played : {f : Forced} → gameRefusal B p ≡ none → f ≡ forced B p → Plays B p (Named f) × PlaysSoundly B p (Named f)
   unfolding gameAnswer
   played {f} t q =
-      let is : Position f ≡ gameAnswer B p = rw t (ap Position q) in
-      (record { result = is }, soundly B p (Position f) is)
+      let is : Named f ≡ gameAnswer B p = rw t (ap Named q) in
+      (record { result = is }, soundly B p (Named f) is)

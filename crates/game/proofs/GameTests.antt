@@ -1,8 +1,8 @@
 -- The game's tests: those of the whole board, then 20 to 22; and what is lent where none of them refuses, and the reverse. Assumes
 -- nothing.
 use Prim.Native.Nat.{ℕ, _+_, _≤_, _<_}
-use mathlib.Core.Path.{_≡_, refl, sym, _∙_}
-use mathlib.Core.Bool.{Bool, true, false, _||_, or-true}
+use mathlib.Core.Path.{_≡_, sym, _∙_}
+use mathlib.Core.Bool.{Bool, _||_, or-true}
 use mathlib.Core.Logic.{_⊎_, inl, inr, ⊎-elim}
 use mathlib.Core.List.{List, [], _∷_}
 use mathlib.Core.Option.{none, some}
@@ -15,11 +15,12 @@ use Rattle.model.specs.declared.answers.Player.the-variants.{Winder, Blocker}
 use Rattle.model.specs.Sums.{orElse}
 use Rattle.model.specs.Board.{Board, edges, edgeLimit}
 use Rattle.model.specs.Game.{heldCount}
-use Rattle.model.specs.Refusals.{Rule, unless, tested, refusalOf, above, sized, edgesOf, gameLimit, gameEdgesRule, positionRule, moveRule, gameRefusal}
+use Rattle.model.specs.Refusals.{Rule, unless, tested, refusalOf, above, sized, edgesOf, gameLimit, gameEdgesRule, positionRule, moveRule, gameRefusal, wholeRules}
 use Rattle.model.proofs.RuleLists.{unless-passes, refusal-append}
+use Rattle.theory.proofs.JoinedLabels.{one-of}
 use Rattle.board.proofs.Failures.{neither-fails, each-passes, passes-each}
 use Rattle.board.proofs.Passing.{place-passes, passes-place}
-use Rattle.board.proofs.Validity.{wholeRules, whole-passes, passes-whole, long-enough, enough-long}
+use Rattle.board.proofs.Validity.{whole-passes, passes-whole, long-enough, enough-long}
 use Rattle.game.specs.Playable.{Playable}
 
 -- the position has a byte for each edge
@@ -53,11 +54,6 @@ pub moves-counted : (p : List ℕ) (w b : ℕ) (kept : Bool) → w ≡ heldCount
     → (eqb w b || eqb w (b + 1)) ≡ kept → tested (moveRule p) ≡ unless kept MoveCount
 moves-counted p w b kept winders blockers q = rw (← winders, ← blockers, q)
 
--- one of two tests passes
-either : (s t : Bool) → (s || t) ≡ true → (s ≡ true) ⊎ (t ≡ true)
-either true t q = inl refl
-either false t q = inr q
-
 pub game-passes : (B : Board) (p : List ℕ) → gameRefusal B p ≡ none → Playable B p
 game-passes B p q =
     let t = neither-fails (refusalOf (wholeRules B (positionSized B p))) _ (sym (game-tests B p) ∙ q) in
@@ -72,7 +68,7 @@ game-passes B p q =
       bytes = λ i h. ltb-false _ _ (place-passes (length p) (above 2 p) (λ i. PositionByte (record { 0 = i })) (e .1 .0) i h);
       turns =
           ⊎-elim (λ l. inl (eqb-true _ _ l)) (λ l. inr (eqb-true _ _ l))
-          (either level ahead (unless-passes (level || ahead) MoveCount (e .1 .1 .0)));
+          (one-of level ahead (unless-passes (level || ahead) MoveCount (e .1 .1 .0)));
     }
 
 -- and the reverse

@@ -2,7 +2,7 @@
 -- itself or contains a winding loop without one of its edges. Assumes nothing.
 use Prim.Native.Nat.{ℕ, zero, suc, _-_, _^_, _<_}
 use mathlib.Core.Path.{_≡_, refl, sym, ap, _∙_}
-use mathlib.Core.Bool.{Bool, true, false, not, _&&_, _||_, or-true, false≢true}
+use mathlib.Core.Bool.{Bool, true, false, not, _&&_, _||_, or-true, false≢true, and-true}
 use native.Mathlib.Omega.{arith}
 use borrow.Author.Tests.{eqb-true}
 use lib.Dec.{eqb}
@@ -12,9 +12,10 @@ use Rattle.model.specs.Winding.{winds}
 use Rattle.model.specs.Distance.{with}
 use Rattle.model.specs.Words.{bitOf}
 use Rattle.model.specs.Game.{loopFrom, holdsLoop}
-use Rattle.model.proofs.Xor.{not-true-false, and-left, and-right, and-both}
+use Rattle.model.proofs.Xor.{not-false-true, and-left, and-right, and-both}
 use Rattle.model.proofs.SumLaws.{some-found, some-none}
 use Rattle.theory.proofs.CrossedLines.{winds-cong}
+use Rattle.theory.proofs.JoinedLabels.{same-test}
 use Rattle.theory.proofs.Distances.{Made, made-with, made-without, made-whole}
 use Rattle.game.proofs.MaskLaws.{bits-without}
 
@@ -78,22 +79,20 @@ holds-more B H G w p =
 
 -- only the edges of the board matter
 pub holds-cong : (B : Board) (H G : Set) → ((e : ℕ) → e < edges B → H e ≡ G e) → holdsLoop B H ≡ holdsLoop B G
-holds-cong B H G same = go (holdsLoop B H) refl
-  where
-    go : (t : Bool) → holdsLoop B H ≡ t → t ≡ holdsLoop B G
-    go true p = sym (holds-more B H G (record { at = λ e h q. sym (same e h) ∙ q }) p)
-    go false p =
-        sym (not-true-false (holdsLoop B G) (λ q. false≢true (sym p ∙ holds-more B G H (record { at = λ e h r. same e h ∙ r }) q)))
+holds-cong B H G same =
+    same-test (holdsLoop B H) (holdsLoop B G)
+    (holds-more B H G (record { at = λ e h q. sym (same e h) ∙ q }))
+    (holds-more B G H (record { at = λ e h q. same e h ∙ q }))
 
 -- An edge at a time
 
-module _ (B : Board) (x : ℕ) (within : x < 2 ^ edges B) where
-  -- some set with an edge less contains a loop
-  abbrev pub holdsLess : Bool
-  holdsLess = someUpTo (edges B) (λ e. bitOf x e && holdsLoop B (bitOf (x - 2 ^ e)))
+-- some set with an edge less contains a loop
+abbrev pub holdsLess : Board → ℕ → Bool
+holdsLess B x = someUpTo (edges B) (λ e. bitOf x e && holdsLoop B (bitOf (x - 2 ^ e)))
 
+module _ (B : Board) (x : ℕ) (within : x < 2 ^ edges B) where
   -- an edge of the set is not of the loop, so that the loop lies in the set without it; or the loop is the set
-  less-or-whole : LoopIn B (bitOf x) → holdsLess ≡ false → winds B (bitOf x) ≡ true
+  less-or-whole : LoopIn B (bitOf x) → holdsLess B x ≡ false → winds B (bitOf x) ≡ true
   less-or-whole l none = winds-cong B (bitOf x) (l .loop) same ∙ l .winding
     where
       m : ℕ
@@ -109,36 +108,25 @@ module _ (B : Board) (x : ℕ) (within : x < 2 ^ edges B) where
         where
           rest : (i : ℕ) → i < m → l .loop i ≡ true → (t : Bool) → eqb i e ≡ t → bitOf (x - 2 ^ e) i ≡ true
           rest i k r true s = absurd (false≢true (sym q ∙ sym (ap (l .loop) (eqb-true i e s)) ∙ r))
-          rest i k r false s = bits-without m x e within h p i k ∙ ap (λ b. not b && bitOf x i) s ∙ l .within .at i k r
+          rest i k r false s = bits-without m x e within h p i k ∙ ap (λ b. bitOf x i && not b) s ∙ and-true (bitOf x i) ∙ l .within .at i k r
 
       same : (e : ℕ) → e < m → bitOf x e ≡ l .loop e
-      same e h = go (bitOf x e) refl (l .loop e) refl
-        where
-          go : (a : Bool) → bitOf x e ≡ a → (b : Bool) → l .loop e ≡ b → a ≡ b
-          go true p true q = refl
-          go true p false q = absurd (left e h p q)
-          go false p true q = absurd (false≢true (sym p ∙ l .within .at e h q))
-          go false p false q = refl
+      same e h = same-test (bitOf x e) (l .loop e) (λ p. not-false-true (l .loop e) (λ q. left e h p q)) (l .within .at e h)
 
-  -- a set with a byte for itself, where those of the sets with an edge less are right
-  pub holds-less : holdsLess ≡ true → holdsLoop B (bitOf x) ≡ true
+  -- a set contains a loop where one with an edge less does, and else exactly where it winds
+  pub holds-less : holdsLess B x ≡ true → holdsLoop B (bitOf x) ≡ true
   holds-less p =
       let s = some-found (edges B) (λ e. bitOf x e && holdsLoop B (bitOf (x - 2 ^ e))) p in
       let e = s .at in
       let there = and-left (bitOf x e) (holdsLoop B (bitOf (x - 2 ^ e))) (s .holds) in
       holds-more B (bitOf (x - 2 ^ e)) (bitOf x)
       (record {
-        at = λ i h q. and-right (not (eqb i e)) (bitOf x i) (sym (bits-without (edges B) x e within (s .less) there i h) ∙ q);
+        at = λ i h q. and-left (bitOf x i) (not (eqb i e)) (sym (bits-without (edges B) x e within (s .less) there i h) ∙ q);
       })
       (and-right (bitOf x e) (holdsLoop B (bitOf (x - 2 ^ e))) (s .holds))
 
-  pub holds-whole : holdsLess ≡ false → holdsLoop B (bitOf x) ≡ winds B (bitOf x)
-  holds-whole none = go (holdsLoop B (bitOf x)) refl
-    where
-      go : (t : Bool) → holdsLoop B (bitOf x) ≡ t → t ≡ winds B (bitOf x)
-      go true p = sym (less-or-whole (loop-found B (bitOf x) p) none)
-      go false p =
-          sym
-          (not-true-false (winds B (bitOf x))
-          (λ q. false≢true
-          (sym p ∙ loop-holds B (bitOf x) (record { loop = bitOf x; within = record { at = λ e h r. r }; winding = q }))))
+  pub holds-whole : holdsLess B x ≡ false → holdsLoop B (bitOf x) ≡ winds B (bitOf x)
+  holds-whole none =
+      same-test (holdsLoop B (bitOf x)) (winds B (bitOf x))
+      (λ p. less-or-whole (loop-found B (bitOf x) p) none)
+      (λ q. loop-holds B (bitOf x) (record { loop = bitOf x; within = record { at = λ e h r. r }; winding = q }))

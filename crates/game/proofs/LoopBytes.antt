@@ -70,7 +70,7 @@ module _ (B : Board) (x : ℕ) (within : x < 2 ^ edges B) {loops : List ℕ} (f 
       ap (λ y. eqb y 1) (f .at (x - 2 ^ e) (omega (arith, power-within x e p, pow-pos e))) ∙ eqb-bit (holdsLoop B (bitOf (x - 2 ^ e)))
   less-byte e false p = refl
 
-  less-bytes : someUpTo (edges B) (λ e. bitOf x e && ones loops (x - 2 ^ e)) ≡ holdsLess B x within
+  less-bytes : someUpTo (edges B) (λ e. bitOf x e && ones loops (x - 2 ^ e)) ≡ holdsLess B x
   less-bytes = some-cong (edges B) _ _ (λ e h. less-byte e (bitOf x e) refl)
 
   pub looped-less : someUpTo (edges B) (λ e. bitOf x e && ones loops (x - 2 ^ e)) ≡ true → 1 ≡ bit (holdsLoop B (bitOf x))

@@ -11,12 +11,14 @@ use lib.Pow.{pow-mono}
 use Rattle.model.specs.declared.answers.Player.the-variants.{Winder, Blocker}
 use Rattle.model.specs.declared.answers.Forced.{Forced}
 use Rattle.model.specs.declared.answers.Forced.the-variants.{Taking, Waiting}
-use Rattle.model.specs.Sums.{Set, firstUpTo}
+use Rattle.model.specs.Sums.{Set, countUpTo, firstUpTo}
+use Rattle.model.specs.Correction.{without}
 use Rattle.model.specs.Words.{bitOf}
 use Rattle.model.specs.Game.{forcedBy, choosing}
+use Rattle.model.proofs.SumLaws.{count-cong}
 use Rattle.board.proofs.Searching.{Passed, ends-at, ends-nowhere}
 use Rattle.game.specs.Searching.{setLimit, windFrom, blockFrom, Searchable}
-use Rattle.game.proofs.MaskLaws.{power-within}
+use Rattle.game.proofs.MaskLaws.{power-within, count-without, bits-without}
 
 module _ (loops : List ℕ) (m h f : ℕ) where
   -- the edges that keep the win, with one edge less free after the move
@@ -85,21 +87,33 @@ module _ (loops : List ℕ) (m h f : ℕ) where
   pub block-held : (k e : ℕ) → bitOf f e ≡ false → blockKeeps k e ≡ false
   block-held k e p = rw p
 
-  -- no mask that is reached lies past the table
-  module _ (s : Searchable loops m h f) where
+  -- No mask that is reached lies past the table.
+  module _ {k : ℕ} (s : Searchable loops m h f k) where
     few-sets : 2 ^ m ≤ setLimit
     few-sets = pow-mono {i = m} {j = 10} (s .few)
 
     pub held-inside : h < setLimit
     held-inside = omega (arith, s .room, few-sets)
 
-    module _ (e : ℕ) (free : bitOf f e ≡ true) where
-      pub hers-inside : h + 2 ^ e < setLimit
-      hers-inside = omega (arith, s .room, few-sets, power-within f e free)
+    -- where an edge is taken, there is room still, and one edge less is free
+    module _ (e : ℕ) (below : e < m) (free : bitOf f e ≡ true) where
+      pub more-inside : h + 2 ^ e < setLimit
+      more-inside = omega (arith, s .room, few-sets, power-within f e free)
 
-      pub wind-next : (edge : ℕ) → edge ≡ 2 ^ e → Searchable loops m (h + edge) (f - edge)
+      less-free : (edge : ℕ) → edge ≡ 2 ^ e → k - 1 ≡ countUpTo m (bitOf (f - edge))
+      less-free edge power =
+          let within : f < 2 ^ m = omega (arith, s .room) in
+          let rest = count-cong m (bitOf (f - edge)) (without (bitOf f) e) (λ i l. ap (λ x. bitOf (f - x) i) power ∙ bits-without m f e within below free i l) in
+          omega (arith, s .free-edges, rest, count-without m e (bitOf f) below free)
+
+      pub wind-next : (edge : ℕ) → edge ≡ 2 ^ e → Searchable loops m (h + edge) (f - edge) (k - 1)
       wind-next edge power =
-          record { few = s .few; long = s .long; room = omega (arith, s .room, power, power-within f e free) }
+          record {
+            few = s .few;
+            long = s .long;
+            room = omega (arith, s .room, power, power-within f e free);
+            free-edges = less-free edge power;
+          }
 
-      pub block-next : (edge : ℕ) → edge ≡ 2 ^ e → Searchable loops m h (f - edge)
-      block-next edge power = record { few = s .few; long = s .long; room = omega (arith, s .room) }
+      pub block-next : (edge : ℕ) → edge ≡ 2 ^ e → Searchable loops m h (f - edge) (k - 1)
+      block-next edge power = record { few = s .few; long = s .long; room = omega (arith, s .room); free-edges = less-free edge power }

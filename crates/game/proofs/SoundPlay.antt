@@ -1,22 +1,21 @@
 -- What players may rely on follows from the answer. Assumes nothing.
-use Prim.Native.Nat.{ℕ, _+_, _≤_, _<_}
+use Prim.Native.Nat.{ℕ, _+_, _<_}
 use mathlib.Core.Path.{_≡_, refl, sym, ap, subst, _∙_}
-use mathlib.Core.Bool.{Bool, true, false, false≢true}
+use mathlib.Core.Bool.{true, false, false≢true}
 use mathlib.Core.Logic.{_⊎_, inl, inr, ⊎-elim}
 use mathlib.Core.List.{List}
 use mathlib.Core.Option.{none}
 use native.Mathlib.Omega.{arith}
-use borrow.Author.Tests.{eqb-true, eqb-false}
 use lib.Dec.{eqb}
-use lib.ListN.{length, getD}
+use lib.ListN.{length}
 use Rattle.model.specs.declared.numbers.Edge.{Edge}
 use Rattle.model.specs.declared.answers.Player.{Player}
 use Rattle.model.specs.declared.answers.Player.the-variants.{Winder, Blocker}
 use Rattle.model.specs.declared.answers.Forced.{Forced}
 use Rattle.model.specs.declared.answers.Forced.the-variants.{Taking, Waiting}
 use Rattle.model.specs.declared.answers.Game.{Game}
-use Rattle.model.specs.declared.answers.Game.the-variants.{Position, Refused}
-use Rattle.model.specs.Board.{Board}
+use Rattle.model.specs.declared.answers.Game.the-variants.{Named, Refused}
+use Rattle.model.specs.Board.{Board, edges}
 use Rattle.model.specs.Game.{isFree, freeCount, heldCount, taken, other, mover, over, wonBy, winner, toMove, forced}
 use Rattle.model.specs.Replies.{Takeable, WinsBy, edgeShown, shown}
 use Rattle.model.specs.Refusals.{gameRefusal}
@@ -26,9 +25,28 @@ use Rattle.model.proofs.Contradiction.{zero-one}
 use Rattle.model.proofs.Places.{answer-passed}
 use Rattle.model.proofs.Xor.{and-left}
 use Rattle.game.specs.Playable.{Playable}
-use Rattle.game.proofs.Moves.{taken-long, taken-here, taken-there, byte-small}
+use Rattle.game.proofs.Moves.{taken-long, byte-taken}
 use Rattle.game.proofs.GameTests.{game-passes, passes-game}
 use Rattle.game.proofs.Strategies.{Turn, turn-mover, turn-next, forced-is, Course, ended, chosen, lost, course, wins, loses, exclusive}
+
+-- Of what a position comes to
+
+module _ (B : Board) (p : List ℕ) where
+  begins : (k : ℕ) (f : Forced) → Course B (mover p) p k f → (P : Player) (e : Edge) → f ≡ Taking P e → (P ≡ mover p) × Takeable B p (e .0)
+  begins k f (ended o) P e q = zero-one (cc)
+  begins k f (chosen i o first) P e q =
+      (sym (ap winner q), subst (Takeable B p) (ap edgeShown q) (record { an-edge = first .less; free = and-left (isFree p i) _ (first .holds) }))
+  begins k f (lost o loss) P e q = zero-one (cc)
+
+  waits : (k : ℕ) (f : Forced) → Course B (mover p) p k f → (P : Player) → f ≡ Waiting P → (over B p ≡ true) ⊎ (P ≡ other (mover p))
+  waits k f (ended o) P q = inl o
+  waits k f (chosen i o first) P q = zero-one (cc)
+  waits k f (lost o loss) P q = inr (sym (ap winner q))
+
+  finished : (k : ℕ) (f : Forced) → Course B (mover p) p k f → over B p ≡ true → f ≡ Waiting (wonBy B p)
+  finished k f (ended o) q = refl
+  finished k f (chosen i o first) q = absurd (false≢true (sym o ∙ q))
+  finished k f (lost o loss) q = absurd (false≢true (sym o ∙ q))
 
 -- From a position that passes the tests
 
@@ -49,11 +67,8 @@ module _ (B : Board) (p : List ℕ) (play : Playable B p) where
   replies : WinsBy B (winner (forced B p)) (shown B) (mover p) p
   replies = subst (λ f. WinsBy B (winner f) (shown B) (mover p) p) (sym its) (wins B (freeCount p) (mover p) p (play .long) turned refl)
 
-  begins : (k : ℕ) (f : Forced) → Course B (mover p) p k f → (P : Player) (e : Edge) → f ≡ Taking P e → (P ≡ mover p) × Takeable B p (e .0)
-  begins k f (ended o) P e q = zero-one (cc)
-  begins k f (chosen i o first) P e q =
-      (sym (ap winner q), subst (Takeable B p) (ap edgeShown q) (record { an-edge = first .less; free = and-left (isFree p i) _ (first .holds) }))
-  begins k f (lost o loss) P e q = zero-one (cc)
+  pub edge-below : (P : Player) (e : Edge) → forced B p ≡ Taking P e → e .0 < edges B
+  edge-below P e q = begins B p (freeCount p) (forced B p) going P e q .1 .an-edge
 
   smallest : (k : ℕ) (f : Forced) → freeCount p ≡ k → Course B (mover p) p k f → (P : Player) (e : Edge) → f ≡ Taking P e
       → (i : ℕ) → i < e .0 → Takeable B p i → WinsBy B (other P) (shown B) (other P) (taken P i p)
@@ -63,31 +78,17 @@ module _ (B : Board) (p : List ℕ) (play : Playable B p) where
       (loses B j (mover p) p (play .long) turned n i t (first .before i (subst (λ x. i < x) (sym (ap edgeShown q)) l)))
   smallest k f n (lost o loss) P e q i l t = zero-one (cc)
 
-  waits : (k : ℕ) (f : Forced) → Course B (mover p) p k f → (P : Player) → f ≡ Waiting P → (over B p ≡ true) ⊎ (P ≡ other (mover p))
-  waits k f (ended o) P q = inl o
-  waits k f (chosen i o first) P q = zero-one (cc)
-  waits k f (lost o loss) P q = inr (sym (ap winner q))
-
-  finished : (k : ℕ) (f : Forced) → Course B (mover p) p k f → over B p ≡ true → f ≡ Waiting (wonBy B p)
-  finished k f (ended o) q = refl
-  finished k f (chosen i o first) q = absurd (false≢true (sym o ∙ q))
-  finished k f (lost o loss) q = absurd (false≢true (sym o ∙ q))
-
   -- after a move the bytes and the counts are right again
-  byte-taken : (e i : ℕ) → e < length p → isFree p e ≡ true → getD p i 0 ≤ 2 → (t : Bool) → eqb i e ≡ t → getD (taken (mover p) e p) i 0 ≤ 2
-  byte-taken e i inside free small true q = rw (eqb-true i e q, taken-here (mover p) p e inside free) (byte-small (mover p))
-  byte-taken e i inside free small false q = rw (taken-there (mover p) p e inside free i (eqb-false i e q)) small
-
   goes-on : (e : ℕ) → Takeable B p e → gameRefusal B (taken (mover p) e p) ≡ none
   goes-on e t =
       let inside : e < length p = omega (arith, play .long, t .an-edge) in
-      let long = taken-long (mover p) p e inside (t .free) in
+      let long = taken-long (mover p) p e in
       passes-game B (taken (mover p) e p)
       (record {
         board = play .board;
         few = play .few;
         long = long ∙ play .long;
-        bytes = λ i h. let here : i < length p = omega (arith, long) in byte-taken e i inside (t .free) (play .bytes i here) (eqb i e) refl;
+        bytes = λ i h. let here : i < length p = omega (arith, long) in byte-taken (mover p) p e inside (t .free) i (play .bytes i here) (eqb i e) refl;
         turns = next-turn (other (mover p)) (taken (mover p) e p) (turn-next (mover p) p e inside (t .free) turned);
       })
     where
@@ -98,19 +99,19 @@ module _ (B : Board) (p : List ℕ) (play : Playable B p) where
 -- Of the answer
 
 -- the answer of a position that is not refused
-abbrev inPosition : Forced → Game → Forced
-inPosition d (Position f) = f
-inPosition d (Refused n) = d
+abbrev inNamed : Forced → Game → Forced
+inNamed d (Named f) = f
+inNamed d (Refused n) = d
 
 module _ (B : Board) (p : List ℕ) (r : Game) (answered : r ≡ gameAnswer B p) where
   -- where it is not a refusal, the tests are passed
-  unrefused : (f : Forced) → r ≡ Position f → gameRefusal B p ≡ none
+  unrefused : (f : Forced) → r ≡ Named f → gameRefusal B p ≡ none
   unfolding gameAnswer
-  unrefused f q = answer-passed (gameRefusal B p) (Position (forced B p)) r answered (λ n s. zero-one (cc))
+  unrefused f q = answer-passed (gameRefusal B p) (Named (forced B p)) r answered (λ n s. zero-one (cc))
 
-  passed : (f : Forced) → r ≡ Position f → Playable B p × (f ≡ forced B p)
+  passed : (f : Forced) → r ≡ Named f → Playable B p × (f ≡ forced B p)
   unfolding gameAnswer
-  passed f q = (game-passes B p (unrefused f q), ap (inPosition f) (sym q ∙ answered ∙ ap (λ t. answer t Refused (Position (forced B p))) (unrefused f q)))
+  passed f q = (game-passes B p (unrefused f q), ap (inNamed f) (sym q ∙ answered ∙ ap (λ t. answer t Refused (Named (forced B p))) (unrefused f q)))
 
   pub soundly : PlaysSoundly B p r
   soundly =
@@ -121,16 +122,16 @@ module _ (B : Board) (p : List ℕ) (r : Game) (answered : r ≡ gameAnswer B p)
             exclusive B by (subst (λ f. WinsBy B (winner f) (shown B) (mover p) p) (sym (w .1)) (replies B p (w .0)));
         begins = λ P e q.
             let w = passed (Taking P e) q in
-            let b = begins B p (w .0) (freeCount p) (forced B p) (going B p (w .0)) P e (sym (w .1)) in
+            let b = begins B p (freeCount p) (forced B p) (going B p (w .0)) P e (sym (w .1)) in
             (b .0, b .1, sym (ap edgeShown (w .1)));
         smallest = λ P e q.
             let w = passed (Taking P e) q in
             smallest B p (w .0) (freeCount p) (forced B p) refl (going B p (w .0)) P e (sym (w .1));
         waits = λ P q.
             let w = passed (Waiting P) q in
-            waits B p (w .0) (freeCount p) (forced B p) (going B p (w .0)) P (sym (w .1));
+            waits B p (freeCount p) (forced B p) (going B p (w .0)) P (sym (w .1));
         finished = λ f q o.
             let w = passed f q in
-            w .1 ∙ finished B p (w .0) (freeCount p) (forced B p) (going B p (w .0)) o;
+            w .1 ∙ finished B p (freeCount p) (forced B p) (going B p (w .0)) o;
         goes-on = λ f q e t. goes-on B p (passed f q .0) e t;
       }

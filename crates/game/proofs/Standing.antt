@@ -11,6 +11,7 @@ use Rattle.model.specs.declared.answers.Player.the-variants.{Winder, Blocker}
 use Rattle.model.specs.declared.answers.Forced.the-variants.{Waiting}
 use Rattle.model.specs.Sums.{ones, firstUpTo}
 use Rattle.model.specs.Board.{Board, edges}
+use Rattle.model.specs.Correction.{without}
 use Rattle.model.specs.Words.{bitOf, numberWith}
 use Rattle.model.specs.Game.{isFree, heldBy, taken, wound, forcedBy, choosing, winderToMove, blockerToMove}
 use Rattle.model.proofs.Bits.{eqb-bit}
@@ -18,7 +19,7 @@ use Rattle.model.proofs.SumLaws.{first-cong}
 use Rattle.theory.proofs.BitLaws.{number-cong, number-bit, number-below}
 use Rattle.game.specs.Searching.{windFrom, blockFrom}
 use Rattle.game.specs.LoopTable.{Filled}
-use Rattle.game.proofs.MaskLaws.{without, number-more}
+use Rattle.game.proofs.MaskLaws.{number-more}
 use Rattle.game.proofs.HeldLoops.{holds-cong}
 use Rattle.game.proofs.Moves.{taken-long, free-taken, held-here, held-before, held-others}
 
@@ -34,15 +35,15 @@ module _ {m : ℕ} {p : List ℕ} {h f : ℕ} (s : Stands m p h f) (e : ℕ) (be
 
   rest : (P : Player) → f - 2 ^ e ≡ numberWith m (isFree (taken P e p))
   rest P =
-      let less = number-cong m (isFree (taken P e p)) (without e (isFree p)) (λ i l. free-taken P p e inside free i) in
+      let less = number-cong m (isFree (taken P e p)) (without (isFree p) e) (λ i l. free-taken P p e inside free i) in
       omega (arith, s .free, number-more m e (isFree p) below free, less)
 
   -- after a move of Winder's, of Blocker's
   pub winder-stands : Stands m (taken Winder e p) (h + 2 ^ e) (f - 2 ^ e)
   winder-stands =
-      let before = number-cong m (without e (heldBy Winder (taken Winder e p))) (heldBy Winder p) (λ i l. held-before Winder p e inside free i) in
+      let before = number-cong m (without (heldBy Winder (taken Winder e p)) e) (heldBy Winder p) (λ i l. held-before Winder p e inside free i) in
       record {
-        long = taken-long Winder p e inside free ∙ s .long;
+        long = taken-long Winder p e ∙ s .long;
         held = omega (arith, s .held, number-more m e (heldBy Winder (taken Winder e p)) below (held-here Winder p e inside free), before);
         free = rest Winder;
       }
@@ -50,7 +51,7 @@ module _ {m : ℕ} {p : List ℕ} {h f : ℕ} (s : Stands m p h f) (e : ℕ) (be
   pub blocker-stands : Stands m (taken Blocker e p) h (f - 2 ^ e)
   blocker-stands =
       record {
-        long = taken-long Blocker p e inside free ∙ s .long;
+        long = taken-long Blocker p e ∙ s .long;
         held =
             s .held
             ∙ number-cong m (heldBy Winder p) (heldBy Winder (taken Blocker e p)) (λ i l. sym (held-others Blocker p e inside free i));

@@ -94,7 +94,7 @@ module _ (B : Board) where
   forced-is P p t = rw (turn-mover P p t)
 
   -- a position that is followed by won ones is won: the winner of each is the one who can force it there
-  module _ (P : Player) (p : List ℕ) (turn : Turn P p) where
+  module _ (P : Player) (p : List ℕ) where
     abbrev Next : ℕ → Type 0
     Next k = (e : ℕ) → e < edges B → isFree p e ≡ true → WinsBy B (winner (toMove (other P) k B (taken P e p))) (shown B) (other P) (taken P e p)
 
@@ -129,10 +129,10 @@ module _ (B : Board) where
   abbrev Won : ℕ → Type 0
   Won k = (P : Player) (p : List ℕ) → length p ≡ edges B → Turn P p → freeCount p ≡ k → WinsBy B (winner (toMove P k B p)) (shown B) P p
 
-  next : (k : ℕ) → Won k → (P : Player) (p : List ℕ) → length p ≡ edges B → (turn : Turn P p) → freeCount p ≡ suc k → Next P p turn k
+  next : (k : ℕ) → Won k → (P : Player) (p : List ℕ) → length p ≡ edges B → Turn P p → freeCount p ≡ suc k → Next P p k
   next k won P p long turn n e l f =
       let inside : e < length p = omega arith in
-      won (other P) (taken P e p) (taken-long P p e inside f ∙ long) (turn-next P p e inside f turn)
+      won (other P) (taken P e p) (taken-long P p e ∙ long) (turn-next P p e inside f turn)
       (omega (arith, free-count P p e inside f))
 
   -- The winner that is named wins, by the edges that are shown.
@@ -141,13 +141,13 @@ module _ (B : Board) where
   wins zero P p long turn n =
       rw (run-out P p) (at-end (ap (λ n. wound B p || eqb n 0) n ∙ or-true (wound B p)) refl)
   wins (suc k) P p long turn n =
-      follows P p turn k (toMove P (suc k) B p) (forced-is P p turn ∙ ap (λ n. toMove P n B p) n) (course P (suc k) p n)
+      follows P p k (toMove P (suc k) B p) (forced-is P p turn ∙ ap (λ n. toMove P n B p) n) (course P (suc k) p n)
       (next k (wins k) P p long turn n)
 
   -- after an edge that doesn't keep the win the other wins
   pub loses : (k : ℕ) (P : Player) (p : List ℕ) → length p ≡ edges B → Turn P p → freeCount p ≡ suc k
       → (e : ℕ) → Takeable B p e → keeps P k p e ≡ false → WinsBy B (other P) (shown B) (other P) (taken P e p)
-  loses k P p long turn n e t q = unkept P p turn k e (next k (wins k) P p long turn n) t q
+  loses k P p long turn n e t q = unkept P p k e (next k (wins k) P p long turn n) t q
 
   -- Q's reply to a move of P's, and Q's move, where P is the other player
   reply : {P Q : Player} {rival : Strategy} (e : ℕ) (p : List ℕ) → other Q ≡ P → WinsBy B Q rival Q (taken (other Q) e p)

@@ -6,7 +6,7 @@ use mathlib.Core.List.{List}
 use mathlib.Core.Option.{Option, none, some}
 use native.Mathlib.Omega.{arith}
 use lib.Dec.{eqb}
-use lib.ListN.{getD, take, replicate, getD-replicate}
+use lib.ListN.{getD, take, replicate}
 use lib.Seq.{getD-take, length-take-le}
 use Rattle.model.specs.Sums.{Set, _⊕_, bit, ones, firstUpTo}
 use Rattle.model.specs.Board.{Board, edges, ValidBytes}
@@ -17,21 +17,19 @@ use Rattle.model.specs.Words.{bitOf}
 use Rattle.model.proofs.Xor.{xor-false}
 use Rattle.model.proofs.Bits.{bit-bound, eqb-bit}
 use Rattle.model.proofs.SumLaws.{some-here, none-some, none-first, first-found}
-use Rattle.model.proofs.ListLaws.{front-long}
+use Rattle.model.proofs.ListLaws.{front-replicate, zero-everywhere}
+use Rattle.model.proofs.OpenBytes.{zeros-valid}
 use Rattle.theory.proofs.CrossedLines.{crossings-cong, winds-cong}
 use Rattle.verdict.specs.Judging.{Judgeable}
 use Rattle.game.specs.LoopTable.{isWound, Small, Spread}
 
--- bytes that are all 0: at the front of an array of zeros
+-- the front of an array of zeros: bytes of no vertex, and of no edge
 module _ (n k : ℕ) (h : n ≤ k) where
-  pub zero-byte : (i : ℕ) → i < n → getD {A = ℕ} (take n (replicate k 0)) i 0 ≡ 0
-  zero-byte i l = getD-take n (replicate k 0) i 0 l ∙ getD-replicate k i 0 0 (omega arith)
+  zeros-out : (i : ℕ) → ones (take n (replicate k 0)) i ≡ false
+  zeros-out i = rw (front-replicate n k 0 h) (ap (λ x. eqb x 1) (zero-everywhere n i))
 
-  pub zeros-out : (i : ℕ) → i < n → ones (take n (replicate k 0)) i ≡ false
-  zeros-out i l = ap (λ x. eqb x 1) (zero-byte i l)
-
-  pub zeros-valid : ValidBytes n (take n (replicate k 0))
-  zeros-valid = record { count = front-long n k 0 h; each = λ i l. rw (zero-byte i l) (omega arith) }
+  front-valid : ValidBytes n (take n (replicate k 0))
+  front-valid = rw (front-replicate n k 0 h) (zeros-valid n)
 
 module _ (B : Board) (S C H : Set) (unlit : (v : ℕ) → v < B .vertices → S v ≡ false) (empty : (e : ℕ) → e < edges B → C e ≡ false) where
   differs-at : (v : ℕ) → v < B .vertices → (syndrome B H v ⊕ S v) ≡ syndrome B H v
@@ -41,9 +39,9 @@ module _ (B : Board) (S C H : Set) (unlit : (v : ℕ) → v < B .vertices → S 
   crossed = crossings-cong B (together H C) H (λ e l. ap (λ b. H e ⊕ b) (empty e l) ∙ xor-false (H e))
 
   -- a vertex at which the set ends: it isn't closed
-  off-open : (v : ℕ) → firstUpTo (B .vertices) (λ v. syndrome B H v ⊕ S v) ≡ some v → winds B H ≡ false
+  off-unclosed : (v : ℕ) → firstUpTo (B .vertices) (λ v. syndrome B H v ⊕ S v) ≡ some v → winds B H ≡ false
   unfolding winds closed
-  off-open v p =
+  off-unclosed v p =
       let f = first-found (B .vertices) (λ v. syndrome B H v ⊕ S v) v p in
       rw (some-here (B .vertices) v (syndrome B H) (f .less) (sym (differs-at v (f .less)) ∙ f .holds))
 
@@ -64,7 +62,7 @@ module _ (B : Board) (S C H : Set) (unlit : (v : ℕ) → v < B .vertices → S 
 
       go : (o : Option ℕ) → firstUpTo (B .vertices) (λ v. syndrome B H v ⊕ S v) ≡ o
           → isWound (judgedAt o (crossings B (together H C))) ≡ winds B H
-      go (some v) p = sym (off-open v p)
+      go (some v) p = sym (off-unclosed v p)
       go none p = by (eqb (crossings B (together H C)) 0) refl ∙ ap (λ x. not (eqb x 0)) crossed ∙ sym (met-closed p)
 
 -- The same of a mask, by the bytes of its edges
@@ -79,14 +77,14 @@ module _ (B : Board) (x : ℕ) (handed : List ℕ) (small : Small B) (spread : S
       record {
         inside = small .inside;
         open-bytes = small .open-bytes;
-        syndrome-bytes = zeros-valid (B .vertices) 1024 (small .inside .vertex-limit);
+        syndrome-bytes = front-valid (B .vertices) 1024 (small .inside .vertex-limit);
         handed-bytes =
             record {
               count = length-take-le (edges B) handed (omega (arith, spread .long, small .few));
               each = λ e l. rw (spread-byte e l) (bit-bound (bitOf x e));
             };
-        correction-bytes = zeros-valid (edges B) 10 (small .few);
-        unlit = λ v l o. zeros-out (B .vertices) 1024 (small .inside .vertex-limit) v l;
+        correction-bytes = front-valid (edges B) 10 (small .few);
+        unlit = λ v l o. zeros-out (B .vertices) 1024 (small .inside .vertex-limit) v;
       }
 
   pub mask-wound :
@@ -94,6 +92,6 @@ module _ (B : Board) (x : ℕ) (handed : List ℕ) (small : Small B) (spread : S
       ≡ winds B (bitOf x)
   mask-wound =
       wound-exactly B _ _ _
-      (zeros-out (B .vertices) 1024 (small .inside .vertex-limit))
-      (zeros-out (edges B) 10 (small .few))
+      (λ v l. zeros-out (B .vertices) 1024 (small .inside .vertex-limit) v)
+      (λ e l. zeros-out (edges B) 10 (small .few) e)
       ∙ winds-cong B (ones (take (edges B) handed)) (bitOf x) (λ e l. ap (λ y. eqb y 1) (spread-byte e l) ∙ eqb-bit (bitOf x e))

@@ -13,7 +13,7 @@ use Rattle.model.specs.Game.{holdsLoop}
 use Rattle.model.specs.Refusals.{gameLimit}
 use Rattle.game.specs.Searching.{setLimit}
 
--- a board on which a game may be played
+-- a board whose loops the table has room for
 pub record Small (B : Board) : Type 0 where
   pub inside : Inside B
   pub open-bytes : length (B .opened) ≡ B .vertices

@@ -1,5 +1,5 @@
--- What the game's tests leave: a valid board of few edges, and a position on it that the two can have come to by turns. No part of what a
--- reader must believe. Assumes nothing.
+-- What the game's tests leave: a valid board of few edges, and a position on it whose counts are those of two who take turns. No part of
+-- what a reader must believe. Assumes nothing.
 use Prim.Native.Nat.{ℕ, _+_, _≤_, _<_}
 use mathlib.Core.Path.{_≡_}
 use mathlib.Core.Logic.{_⊎_}

@@ -8,7 +8,7 @@ use lib.ListN.{length}
 use Rattle.model.specs.declared.answers.Player.the-variants.{Winder, Blocker}
 use Rattle.model.specs.declared.answers.Forced.{Forced}
 use Rattle.model.specs.declared.answers.Forced.the-variants.{Waiting}
-use Rattle.model.specs.Sums.{ones, firstUpTo}
+use Rattle.model.specs.Sums.{ones, countUpTo, firstUpTo}
 use Rattle.model.specs.Words.{bitOf}
 use Rattle.model.specs.Game.{forcedBy, choosing}
 use Rattle.model.specs.Refusals.{gameLimit}
@@ -31,8 +31,9 @@ unfoldable mutual
       cond (ones loops h) (Waiting Winder)
       (choosing Blocker (firstUpTo m (λ e. bitOf f e && forcedBy Blocker (windFrom k loops m h (f - 2 ^ e)))))
 
--- no mask that the search reaches lies past the table
-pub record Searchable (loops : List ℕ) (m h f : ℕ) : Type 0 where
+-- no mask that the search reaches lies past the table, and k edges are free
+pub record Searchable (loops : List ℕ) (m h f k : ℕ) : Type 0 where
   pub few : m ≤ gameLimit
   pub long : length loops ≡ setLimit
   pub room : h + f < 2 ^ m
+  pub free-edges : k ≡ countUpTo m (bitOf f)

@@ -52,5 +52,5 @@ pub fn game(vertices: usize, ends: &[u16], marks: &[u8], opened: &[u8], position
     if let Check::Failed(refusal) = check_game(vertices, ends, marks, opened, position) {
         return Game::Refused(refusal);
     }
-    Game::Position(search(vertices, ends, marks, opened, position))
+    Game::Named(search(vertices, ends, marks, opened, position))
 }

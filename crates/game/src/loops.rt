@@ -12,7 +12,7 @@ ghost use Prim.Native.Nat.{_-_, _^_, _≤_, _<_};
 ghost use lib.ListN.{length};
 ghost use Rattle.model.specs.Board.{boardOf};
 ghost use Rattle.model.specs.Lent.{before, after, boardLent};
-ghost use Rattle.model.specs.Sums.{bit, ones, bytes, someUpTo};
+ghost use Rattle.model.specs.Sums.{bit, ones, someUpTo};
 ghost use Rattle.model.specs.Winding.{winds};
 ghost use Rattle.model.specs.Words.{bitOf};
 ghost use Rattle.model.specs.Refusals.{gameLimit};

@@ -1,5 +1,5 @@
-// Who can force the win, by two functions that call each other: Winder's choice is judged by Blocker's best reply, and the reverse. One edge
-// less is free at each call, so that no more than ten are under way inside the first.
+// Who can force the win, by two functions that call each other: Winder's choice is judged by Blocker's best reply, and the reverse. One
+// edge less is free at each call, so that no more than ten are under way inside the first.
 use crate::masks::Masks;
 use crate::masks::alone;
 use crate::masks::has;
@@ -33,7 +33,7 @@ fn is_blocker(player: Player) -> bool
 }
 
 // Says whether Winder can force the win, whether Blocker can.
-fn is_winders(forced: Forced) -> bool
+fn winder_wins(forced: Forced) -> bool
     ensures { λ r. ⌜ r ≡ forcedBy Winder forced ⌝ }
 {
     match forced {
@@ -42,7 +42,7 @@ fn is_winders(forced: Forced) -> bool
     }
 }
 
-fn is_blockers(forced: Forced) -> bool
+fn blocker_wins(forced: Forced) -> bool
     ensures { λ r. ⌜ r ≡ forcedBy Blocker forced ⌝ }
 {
     match forced {
@@ -53,7 +53,7 @@ fn is_blockers(forced: Forced) -> bool
 
 // Winder is to move.
 pub(crate) fn wind(loops: &[u8; GAME_SETS], edges: usize, masks: Masks) -> Forced
-    requires { ⌜ Searchable (now loops) edges (masks .held) (masks .free) ⌝ }
+    requires { ⌜ Searchable (now loops) edges (masks .held) (masks .free) (masks .left) ⌝ }
     ensures { λ r. ⌜ r ≡ windFrom (masks .left) (before loops) edges (masks .held) (masks .free) ⌝ }
 {
     let held = masks.held;
@@ -76,7 +76,7 @@ pub(crate) fn wind(loops: &[u8; GAME_SETS], edges: usize, masks: Masks) -> Force
                 free: rest,
                 left,
             };
-            if is_winders(block(loops, edges, next)) {
+            if winder_wins(block(loops, edges, next)) {
                 let number = e as u16;
                 return Forced::Taking(Player::Winder, Edge(number));
             }
@@ -88,7 +88,7 @@ pub(crate) fn wind(loops: &[u8; GAME_SETS], edges: usize, masks: Masks) -> Force
 
 // Blocker is to move.
 pub(crate) fn block(loops: &[u8; GAME_SETS], edges: usize, masks: Masks) -> Forced
-    requires { ⌜ Searchable (now loops) edges (masks .held) (masks .free) ⌝ }
+    requires { ⌜ Searchable (now loops) edges (masks .held) (masks .free) (masks .left) ⌝ }
     ensures { λ r. ⌜ r ≡ blockFrom (masks .left) (before loops) edges (masks .held) (masks .free) ⌝ }
 {
     let hers = masks.held;
@@ -110,7 +110,7 @@ pub(crate) fn block(loops: &[u8; GAME_SETS], edges: usize, masks: Masks) -> Forc
                 free: rest,
                 left,
             };
-            if is_blockers(wind(loops, edges, next)) {
+            if blocker_wins(wind(loops, edges, next)) {
                 let number = e as u16;
                 return Forced::Taking(Player::Blocker, Edge(number));
             }

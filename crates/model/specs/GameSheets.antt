@@ -22,6 +22,10 @@ use Rattle.model.specs.MarkedSheets.{ring, pair, point}
 abbrev pub three : List ℕ → Board
 three marks = withoutOpen 2 (0 ∷ 1 ∷ 0 ∷ 1 ∷ 0 ∷ 1 ∷ []) marks
 
+-- one vertex with three loop edges, of which the first crosses line A
+abbrev pub loops : Board
+loops = withoutOpen 1 (0 ∷ 0 ∷ 0 ∷ 0 ∷ 0 ∷ 0 ∷ []) (1 ∷ 0 ∷ 0 ∷ [])
+
 -- the edge shown to a player
 abbrev pub takes : Player → ℕ → Forced
 takes P e = Taking P (record { 0 = e })
@@ -50,11 +54,15 @@ pub record GameSheets : Type 0 where
   pub mistake : forced (three (0 ∷ 0 ∷ 1 ∷ [])) (1 ∷ 0 ∷ 0 ∷ []) ≡ takes Blocker 2
   -- the ring has one loop, of all four edges
   pub ring-blocked : forced ring (0 ∷ 0 ∷ 0 ∷ 0 ∷ []) ≡ Waiting Blocker
+  -- Blocker may take any edge of it, and is shown the smallest
+  pub any-block : forced ring (1 ∷ 0 ∷ 0 ∷ 0 ∷ []) ≡ takes Blocker 1
   -- a loop edge that is marked is a loop by itself
   pub torus-1 : forced (torus 1) (0 ∷ 0 ∷ []) ≡ takes Winder 0
   pub torus-1-over : forced (torus 1) (1 ∷ 0 ∷ []) ≡ Waiting Winder
   -- a loop that Winder had before he moved is a loop still
   pub torus-1-later : forced (torus 1) (1 ∷ 2 ∷ []) ≡ Waiting Winder
+  -- nor does she move on, where an edge is free
+  pub loops-later : forced loops (1 ∷ 2 ∷ 0 ∷ []) ≡ Waiting Winder
   -- from open side to open side is a loop in the wider meaning
   pub row-won : forced row (1 ∷ 1 ∷ 1 ∷ []) ≡ Waiting Winder
   pub row-blocked : forced row (0 ∷ 0 ∷ 0 ∷ []) ≡ Waiting Blocker
@@ -86,9 +94,11 @@ game-sheets =
       reply = refl;
       mistake = refl;
       ring-blocked = refl;
+      any-block = refl;
       torus-1 = refl;
       torus-1-over = refl;
       torus-1-later = refl;
+      loops-later = refl;
       row-won = refl;
       row-blocked = refl;
       planar-2 = refl;

@@ -92,13 +92,13 @@ abbrev pub packedLit : Lit → ℕ
 packedLit (lit.Total t) = packed t 0
 packedLit (lit.Refused n) = packedRefusal n
 
--- 1 Winder, 2 Blocker, as in a position; the edge and 1, or 0 where no edge is shown
+-- 1 Winder, 2 Blocker, as in a position; one more than the edge, or 0 where no edge is shown
 abbrev pub packedForced : Forced → ℕ
 packedForced (Taking P e) = packed (byteOf P) (e .0 + 1)
 packedForced (Waiting P) = packed (byteOf P) 0
 
 abbrev pub packedGame : Game → ℕ
-packedGame (game.Position f) = packedForced f
+packedGame (game.Named f) = packedForced f
 packedGame (game.Refused n) = packedRefusal n
 
 -- Taking apart
@@ -200,7 +200,7 @@ playerWith first = cond (eqb first 1) Winder Blocker
 
 abbrev pub gameWith : ℕ → ℕ → Game
 gameWith first second =
-    game.Position (cond (eqb second 0) (Waiting (playerWith first)) (Taking (playerWith first) (record { 0 = second - 1 })))
+    game.Named (cond (eqb second 0) (Waiting (playerWith first)) (Taking (playerWith first) (record { 0 = second - 1 })))
 
 unfoldable pub unpackedGame : ℕ → Game
 unpackedGame = unpacked game.Refused gameWith

@@ -1,6 +1,6 @@
--- Document 01, "Numbers and places", and document 02, K1, K3, K5, K7, K9 and K11: the number and the place of each refusal, and the rules of
--- each call in the order of their tests; those of calls on packed sheets stand in `WordRefusals`, those of the text in `TextOutcomes`. No
--- refusal has number 5, which was that of equal ends. Assumes nothing.
+-- Document 01, "Numbers and places", and document 02, K1, K3, K5, K7, K9 and K11: the number and the place of each refusal, and the rules
+-- of each call in the order of their tests; those of calls on packed sheets stand in `WordRefusals`, those of the text in `TextOutcomes`.
+-- No refusal has number 5, which was that of equal ends. Assumes nothing.
 use Prim.Native.Nat.{ℕ, _+_, _*_, _/_, _%_}
 use mathlib.Core.Bool.{Bool, cond, _&&_, _||_}
 use mathlib.Core.List.{List, [], _∷_, _++_, map}
@@ -169,8 +169,8 @@ planarSideRule L = whole (leb leastPlanar L && leb L largestPlanar) (PlanarSide 
 abbrev pub roundsRule : ℕ → ℕ → Rule
 roundsRule L R = whole (leb 1 R && leb (stackVertices L R) vertexLimit) RoundCount
 
--- Rule 20: a game is played on at most 10 edges. Rule 21: a position byte is at most 2. Rule 22: Winder has as many edges as Blocker, or one
--- more.
+-- Rule 20: a game is played on at most 10 edges. Rule 21: a position byte is at most 2. Rule 22: Winder has as many edges as Blocker, or
+-- one more.
 abbrev pub gameLimit : ℕ
 gameLimit = 10
 
@@ -202,6 +202,10 @@ boardSized B = sized (B .marks) (edgesOf (B .ends)) && sized (B .opened) (B .ver
 -- a board but for its open bytes; `others` says that each buffer lent beside it has its length
 unfoldable pub boardRules : Board → Bool → List Rule
 boardRules B others = countRules (B .vertices) (B .ends) (boardSized B && others) ++ edgeRules B
+
+-- a board with its open bytes: 1 to 4, 6 and 16
+abbrev pub wholeRules : Board → Bool → List Rule
+wholeRules B others = boardRules B others ++ (openRule (B .opened) ∷ [])
 
 -- then the bytes of a sheet: 7 and 8
 abbrev pub byteRules : List ℕ → List ℕ → List Rule
@@ -249,7 +253,7 @@ verdictRefusal X handed = refusalOf (verdictRules X handed)
 -- The distance is lent a board and a buffer for the loop shown.
 unfoldable pub distanceRules : Board → List ℕ → List Rule
 unfolding boardRules
-distanceRules B shown = boardRules B (sized shown (edgesOf (B .ends))) ++ (openRule (B .opened) ∷ [])
+distanceRules B shown = wholeRules B (sized shown (edgesOf (B .ends)))
 
 unfoldable pub distanceRefusal : Board → List ℕ → Test
 unfolding distanceRules
@@ -259,8 +263,7 @@ distanceRefusal B shown = refusalOf (distanceRules B shown)
 unfoldable pub gameRules : Board → List ℕ → List Rule
 unfolding boardRules
 gameRules B position =
-    boardRules B (sized position (edgesOf (B .ends)))
-    ++ (openRule (B .opened) ∷ gameEdgesRule B ∷ positionRule position ∷ moveRule position ∷ [])
+    wholeRules B (sized position (edgesOf (B .ends))) ++ (gameEdgesRule B ∷ positionRule position ∷ moveRule position ∷ [])
 
 unfoldable pub gameRefusal : Board → List ℕ → Test
 unfolding gameRules

@@ -66,8 +66,8 @@ pub enum Player {
     Blocker,
 }
 
-// Who can force the win from a position: the player to move, by taking an edge, the smallest that keeps the win; or a player who is shown no
-// edge, because the other is to move or the game is over.
+// Who can force the win from a position: the player to move, by taking an edge, the smallest that keeps the win; or a player who is shown
+// no edge, because the other is to move or the game is over.
 pub enum Forced {
     Taking(Player, Edge),
     Waiting(Player),
@@ -75,6 +75,6 @@ pub enum Forced {
 
 // What the game answers: who can force the win, or a refusal.
 pub enum Game {
-    Position(Forced),
+    Named(Forced),
     Refused(Refusal),
 }

@@ -12,7 +12,7 @@ use Rattle.model.specs.declared.answers.Player.the-variants.{Winder, Blocker}
 use Rattle.model.specs.Sums.{ones}
 use Rattle.model.specs.Board.{Board, Sheet, edges, vertexLimit, edgeLimit}
 use Rattle.model.specs.Decoding.{smallestOdd}
-use Rattle.model.specs.Refusals.{Test, tested, refusalOf, sized, edgesOf, outside, above, litOpen, boardSized, countRules, edgeRules, boardRules, byteRules, plainRules, openRule, openRules, sheetRules, sideRule, planarSideRule, lengthRule, handedRule, syndromeRule, decodeRefusal, verdictRefusal, distanceRefusal, torusRefusal, planarRefusal, stackSized, layerRules, stackRefusal, lossRule, facesSized, facesRefusal, gameLimit, gameRefusal, oddPartTest, noneAt}
+use Rattle.model.specs.Refusals.{Test, tested, refusalOf, sized, edgesOf, outside, above, litOpen, boardSized, countRules, edgeRules, boardRules, byteRules, plainRules, openRule, openRules, sheetRules, sideRule, planarSideRule, lengthRule, handedRule, syndromeRule, decodeRefusal, verdictRefusal, distanceRefusal, torusRefusal, planarRefusal, stackSized, layerRules, stackRefusal, lossRule, facesSized, facesRefusal, gameLimit, gameRefusal, oddPartTest, noneAt, wholeRules}
 use Rattle.model.specs.Game.{heldCount}
 use Rattle.model.specs.Torus.{leastSide, largestSide}
 use Rattle.model.specs.Planar.{leastPlanar, largestPlanar, planarVertices, planarEdges}
@@ -24,7 +24,7 @@ use Rattle.model.specs.WordRefusals.{wordRule, wordRules, wordsSized, itemRules
 use Rattle.model.proofs.Places.{PlaceBelow, EachBelow, wider, unless-below, at-below, first-below, else-below, rules-below}
 use Rattle.model.proofs.RuleLists.{unless-passes, refusal-append}
 use Rattle.theory.proofs.SmallestOdd.{smallest-odd-exactly}
-use Rattle.board.proofs.Validity.{board-tests, counts-allow, plain-tests, board-allows, wholeRules, whole-tests, open-allowed, sheet-tests, plain-passes, plain-allows}
+use Rattle.board.proofs.Validity.{board-tests, counts-allow, plain-tests, board-allows, whole-tests, open-allowed, sheet-tests, plain-passes, plain-allows}
 use Rattle.board.proofs.Calls.{verdict-tests, handed-allowed}
 use Rattle.board.proofs.Failures.{neither-fails, each-passes}
 use Rattle.stack.proofs.LayerTests.{passed-layers}

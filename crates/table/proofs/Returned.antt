@@ -52,7 +52,7 @@ use Rattle.model.specs.Packing.{packed, packedDecoded, packedRounds, packedVerd
 use Rattle.model.proofs.SumLaws.{count-bound}
 use Rattle.model.proofs.Packing.{unpacked-values, unpacked-refusal}
 use Rattle.model.proofs.Places.{PlaceBelow, answer-holds}
-use Rattle.theory.proofs.AnswerBounds.{count-limit, size-bound, differs-bound, crossings-bound, fewest-bound, forced-bound}
+use Rattle.theory.proofs.AnswerBounds.{count-limit, size-bound, differs-bound, crossings-bound, fewest-bound}
 use Rattle.theory.proofs.ReadBounds.{LineBelow, line-below}
 use Rattle.theory.proofs.RoundTrip.{written-read}
 use Rattle.model.proofs.Xor.{and-right}
@@ -66,6 +66,7 @@ use Rattle.stack.proofs.StackPasses.{stack-passes}
 use Rattle.torus.proofs.TorusValid.{torus-valid}
 use Rattle.faces.proofs.FaceTests.{faces-passes}
 use Rattle.game.proofs.GameTests.{game-passes}
+use Rattle.game.proofs.SoundPlay.{edge-below}
 use Rattle.packed.proofs.WordTests.{pack-passes, unpack-passes, lit-passes}
 use Rattle.packed.proofs.Screening.{packed-passes}
 use Rattle.table.proofs.CallPlaces.{roomy, decode-small, verdict-small, odd-small, distance-small, game-small, torus-side, planar-side, stack-side, faces-side, read-small, write-small, pack-small, unpack-small, lit-small, decode-packed-small}
@@ -227,7 +228,7 @@ game-values Blocker second h = unpacked-values game.Refused gameWith 2 second (o
 
 -- an edge is one less than its value, which is never 0
 game-forced : (f : Forced) → ((P : Player) (e : Edge) → f ≡ Taking P e → e .0 < gameLimit)
-    → unpackedGame (packedGame (game.Position f)) ≡ game.Position f
+    → unpackedGame (packedGame (game.Named f)) ≡ game.Named f
 game-forced (Taking P e) small =
     let below = small P e refl in
     let after : e .0 + 1 - 1 ≡ e .0 = omega arith in
@@ -240,8 +241,8 @@ unfolding gameAnswer
 game-returned B position =
     back packedGame unpackedGame (gameRefusal B position) game-refusal (roomy (game-small B position))
     (λ p.
-    let few = game-passes B position p .few in
-    game-forced (forced B position) (λ P e q. omega (arith, forced-bound B position P e q)))
+    let play = game-passes B position p in
+    game-forced (forced B position) (λ P e q. omega (arith, edge-below B position play P e q, play .few)))
 
 -- The torus: L² vertices. A side is lent as 32 bits, to all builders.
 

@@ -376,7 +376,7 @@ pub extern "C" fn surface_list_lit(vertices: usize, lit: &[u64], list: &mut [u16
     pack_lit(packed::list_lit(vertices, lit, list))
 }
 
-// Who can force the win of the game from a position: 1 Winder, 2 Blocker; and the edge to take and 1, or 0 where no edge is shown.
+// Who can force the win of the game from a position: 1 Winder, 2 Blocker; and one more than the edge to take, or 0 where none is shown.
 #[no_mangle]
 pub extern "C" fn surface_game(
     vertices: usize,

@@ -82,7 +82,7 @@ fn player_value(player: Player) -> usize
     }
 }
 
-// Who can force the win: the player, and the edge and 1, or 0 where no edge is shown.
+// Who can force the win: the player, and one more than the edge, or 0 where none is shown.
 fn pack_forced(forced: Forced) -> u64
     ensures { λ r. ⌜ r ≡ packedForced forced ⌝ }
 {
@@ -97,7 +97,7 @@ pub(crate) fn pack_game(game: Game) -> u64
     ensures { λ r. ⌜ r ≡ packedGame game ⌝ }
 {
     match game {
-        Game::Position(forced) => pack_forced(forced),
+        Game::Named(forced) => pack_forced(forced),
         Game::Refused(n) => pack_refusal(n),
     }
 }

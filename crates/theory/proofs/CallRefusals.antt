@@ -114,7 +114,7 @@ game-smallest B position = smallest-exactly (game-numbers B position) refl
 pub game-answers : (B : Board) (position : List ℕ) (q : Refusal) → Applies (gameRules B position) q
     → AnswersSmallest (gameRules B position) game.Refused (gameAnswer B position)
 unfolding gameAnswer gameRefusal
-game-answers B position = answers-smallest (game-numbers B position) refl game.Refused (game.Position (forced B position))
+game-answers B position = answers-smallest (game-numbers B position) refl game.Refused (game.Named (forced B position))
 
 -- The reader
 

@@ -20,7 +20,8 @@ same-test true b to from = sym (to refl)
 same-test false true to from = absurd (false≢true (from refl))
 same-test false false to from = refl
 
-one-of : (a b : Bool) → (a || b) ≡ true → (a ≡ true) ⊎ (b ≡ true)
+-- one of two tests holds where either does
+pub one-of : (a b : Bool) → (a || b) ≡ true → (a ≡ true) ⊎ (b ≡ true)
 one-of true b p = inl refl
 one-of false b p = inr p
 

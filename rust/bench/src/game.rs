@@ -66,8 +66,9 @@ fn boards() -> Vec<(&'static str, Board)> {
     ]
 }
 
-/// Of some ninety thousand boards that were climbed over, the one with most positions to look at where
-/// edges are tried from the smallest on. The last edge wins, after all others were tried.
+/// Of some ninety thousand boards that were tried by climbing from board to board, the one with most
+/// positions to look at where edges are tried from the smallest on. The last edge wins, after all others
+/// were tried.
 fn slowest_known() -> Board {
     let ends = [3, 1, 4, 1, 4, 3, 0, 5, 1, 5, 4, 2, 2, 3, 6, 3, 3, 0, 3, 6];
     let board = Board::new(7, &[]).with_open(&[0, 2, 6]);

@@ -92,6 +92,18 @@ impl Board {
     pub fn winds(&self, set: &[u8]) -> bool {
         self.is_closed(set) && self.crossings(set) != 0
     }
+
+    /// Whether some of a set's edges wind, for sets of few edges: all choices of them are tried. The game
+    /// finds it out in a way of its own, which is compared with this one.
+    pub fn contains_winding_loop(&self, set: &[u8]) -> bool {
+        let own: Vec<usize> = members(set).collect();
+        assert!(own.len() < 24, "too many choices");
+        (0_u32..1 << own.len()).any(|choice| {
+            let chosen = (0..own.len()).filter(|at| choice >> at & 1 == 1);
+            let edges: Vec<usize> = chosen.map(|at| own[at]).collect();
+            self.winds(&set_of(set.len(), &edges))
+        })
+    }
 }
 
 impl Sheet {

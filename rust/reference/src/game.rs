@@ -56,12 +56,9 @@ pub struct Solved {
 impl Solved {
     /// The board is one that the game doesn't refuse.
     pub fn new(board: &Board) -> Solved {
-        let edges = board.edges();
         let loops = winding_loops(board);
-        let mut games = vec![None; power(edges)];
-        for number in (0..games.len()).rev() {
-            let position: Vec<u8> =
-                (0..edges).map(|edge| (number / power(edge) % 3) as u8).collect();
+        let mut games = vec![None; power(board.edges())];
+        for (number, position) in all_positions(board.edges()).enumerate().rev() {
             games[number] = to_move(&position).map(|player| {
                 from_replies(&loops, &position, player, |byte, edge| {
                     games[number + usize::from(byte) * power(edge)]
@@ -82,6 +79,15 @@ impl Solved {
 /// How many positions so many edges have.
 fn power(edges: usize) -> usize {
     3_usize.pow(edges as u32)
+}
+
+/// All positions of so many edges in the order of their numbers, also those that moves in turn don't lead
+/// to.
+pub fn all_positions(edges: usize) -> impl DoubleEndedIterator<Item = Vec<u8>> + ExactSizeIterator {
+    let digits = move |number: usize| {
+        (0..edges).map(|edge| (number / power(edge) % 3) as u8).collect::<Vec<u8>>()
+    };
+    (0..power(edges)).map(digits)
 }
 
 /// The edges of one byte, as bits.

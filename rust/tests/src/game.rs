@@ -53,10 +53,7 @@ fn is_game(game: Game, plain: plain::Game) -> bool {
 
 /// All positions of so many edges that moves in turn lead to.
 pub fn positions(edges: usize) -> impl Iterator<Item = Vec<u8>> {
-    let position = move |number: usize| {
-        (0..edges).map(|edge| (number / 3_usize.pow(edge as u32) % 3) as u8).collect::<Vec<u8>>()
-    };
-    (0..3_usize.pow(edges as u32)).map(position).filter(|position| {
+    plain::all_positions(edges).filter(|position| {
         let count = |of: u8| position.iter().filter(|&&byte| byte == of).count();
         count(1) == count(2) || count(1) == count(2) + 1
     })

@@ -4,7 +4,7 @@ use std::fmt::Debug;
 
 use reference::board::{Board, Sheet};
 use reference::packed::PackedSheet;
-use table::Refusal;
+use table::{GAME_EDGES, Refusal};
 
 use crate::{agrees, game, packed};
 
@@ -59,7 +59,7 @@ pub fn none_refuses(sheet: &Sheet) {
     assert!(agrees::verdict(sheet, &vec![0; sheet.board.edges()]).is_ok(), "the verdict");
     agrees::distance(&sheet.board).expect("distance");
     let played = game::game(&sheet.board, &vec![0; sheet.board.edges()]);
-    assert_eq!(played.is_ok(), sheet.board.edges() <= 10, "the game: {played:?}");
+    assert_eq!(played.is_ok(), sheet.board.edges() <= GAME_EDGES, "the game: {played:?}");
     agrees::write(sheet).expect("writing");
 }
 

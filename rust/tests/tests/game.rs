@@ -58,7 +58,7 @@ fn on_tori_and_planar_boards() {
     assert_eq!(said(&torus(1), &[2, 1]), (Winder, None));
     assert_eq!(said(&torus(2), &[0; 8]), (Winder, Some(0)));
     assert_eq!(said(&planar(2), &[0; 5]), (Winder, Some(0)));
-    // Of edge 0 Winder needs edge 1, or edge 4, down the column, and edge 3.
+    // Beside edge 0 Winder needs edge 1, or edge 4, down the column, and edge 3. Edges 2 and 3 wind too.
     assert_eq!(said(&planar(2), &[1, 0, 0, 0, 0]), (Winder, None));
     assert_eq!(said(&planar(2), &[1, 2, 0, 0, 0]), (Winder, Some(3)));
     assert_eq!(said(&planar(2), &[1, 2, 0, 2, 1]), (Blocker, None));

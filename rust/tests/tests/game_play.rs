@@ -42,17 +42,10 @@ fn moves(position: &[u8]) -> Vec<(usize, Vec<u8>)> {
     (0..position.len()).filter(|&edge| position[edge] == 0).map(taken).collect()
 }
 
-/// The winner of a finished position: some of Winder's edges wind, or no edge is free.
+/// The winner of a finished position: some of Winder's edges, the members of a position as a set, wind, or
+/// no edge is free.
 fn finished(board: &Board, position: &[u8]) -> Option<Player> {
-    let own: Vec<usize> = (0..position.len()).filter(|&edge| position[edge] == 1).collect();
-    let winds = |choice: u32| {
-        let mut set = vec![0; position.len()];
-        for (at, &edge) in own.iter().enumerate() {
-            set[edge] = (choice >> at & 1) as u8;
-        }
-        board.winds(&set)
-    };
-    if (0..1 << own.len()).any(winds) {
+    if board.contains_winding_loop(position) {
         return Some(Player::Winder);
     }
     if position.contains(&0) { None } else { Some(Player::Blocker) }
@@ -90,9 +83,12 @@ fn answers_by_replies() {
     }
 }
 
-/// Plays on from a position: the winner takes the edge that is shown, the other every free edge. Each
-/// line must end with the winner's win. A position that was seen is not gone on from again.
+/// Plays on from a position: the winner takes the edge that is shown, the other every free edge. The same
+/// winner must be named in every position on the way, and each line must end with that win. A position
+/// that was seen is not gone on from again: what is named there is the winner that it was gone on with.
 fn follow(board: &Board, position: Vec<u8>, winner: Player, seen: &mut HashSet<Vec<u8>>) {
+    let game = library::game(board, &position);
+    assert_eq!(game.winner, winner, "another winner on the way: {position:?} on {board:?}");
     if !seen.insert(position.clone()) {
         return;
     }
@@ -100,7 +96,6 @@ fn follow(board: &Board, position: Vec<u8>, winner: Player, seen: &mut HashSet<V
         assert_eq!(won, winner, "{position:?} on {board:?}");
         return;
     }
-    let game = library::game(board, &position);
     let shown = |edge: usize| to_move(&position) != winner || game.edge == Some(edge);
     let replies: Vec<_> = moves(&position).into_iter().filter(|&(edge, _)| shown(edge)).collect();
     assert!(!replies.is_empty(), "no edge is shown: {position:?} on {board:?}");

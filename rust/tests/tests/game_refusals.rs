@@ -3,6 +3,7 @@
 
 use reference::Random;
 use reference::board::Board;
+use reference::game::all_positions;
 use reference::generators::{Kind, crowd, opened, path};
 use table_tests::game::{drawn_board, drawn_position, game};
 use table_tests::refused::refused;
@@ -129,11 +130,9 @@ fn number_21() {
 #[test]
 fn number_22() {
     let (mut passed, mut seen) = (0, 0);
-    for edges in 0..=6_u32 {
-        let board = path(edges as usize + 1);
-        for number in 0..3_usize.pow(edges) {
-            let position: Vec<u8> =
-                (0..edges).map(|edge| (number / 3_usize.pow(edge) % 3) as u8).collect();
+    for edges in 0..=6 {
+        let board = path(edges + 1);
+        for position in all_positions(edges) {
             let played = game(&board, &position);
             let [winder, blocker] =
                 [1, 2].map(|of| position.iter().filter(|&&by| by == of).count());

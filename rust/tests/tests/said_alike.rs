@@ -148,7 +148,8 @@ fn number_that_is_not_in_use() {
 }
 
 /// The tests of each call, in order, as the page of rules must list them: 16 and 17 come after 8 and 9
-/// and before 10, 12 and 14, 19 in the place of 7 and 8, and a side and rounds before the lengths.
+/// and before 10, 12 and 14, 19 in the place of 7 and 8, 20 to 22 after all of the board's own, and a side
+/// and rounds before the lengths.
 const TESTS: [(&str, &str); 16] = [
     ("decode", "1 2 3 4 6 7 8 16 17 10"),
     ("decode_rounds", "1 2 3 4 6 7 8 16 17 10"),

@@ -5,6 +5,7 @@ use std::thread;
 use reference::generators::{Kind, opened, sheet};
 use reference::torus::torus;
 use reference::{PackedSheet, Random, Sheet};
+use table::GAME_EDGES;
 use table_tests::packed::{Listing, Packing, Unpacking, decode_packed, lit_total};
 use table_tests::{agrees, game, library};
 
@@ -121,7 +122,7 @@ fn all_calls_at_once() {
         scope.spawn(|| {
             for Sheet { board, .. } in sheets {
                 let played = game::game(board, &vec![0; board.edges()]);
-                assert_eq!(played.is_ok(), board.edges() <= 10, "{played:?}");
+                assert_eq!(played.is_ok(), board.edges() <= GAME_EDGES, "{played:?}");
             }
         });
     });

@@ -41,6 +41,7 @@ wind-requires c κs =
     let counted = c .before .before .before .before in
     let start = begun counted in
     searchable (lent start) (start .args .position .now) _ (start .pre) (filled counted) (counted .before .before .mask .ensures) (counted .before .mask2 .ensures)
+    (counted .count .ensures)
 
 returns : tie.Need-returns
 returns c =
@@ -61,6 +62,7 @@ block-requires c κs =
     let counted = c .before .before .before .before in
     let start = begun counted in
     searchable (lent start) (start .args .position .now) _ (start .pre) (filled counted) (counted .before .before .mask .ensures) (counted .before .mask2 .ensures)
+    (counted .count .ensures)
 
 returns-2 : tie.Need-returns-2
 returns-2 c =

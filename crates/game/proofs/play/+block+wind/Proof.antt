@@ -10,13 +10,13 @@ use borrow.Fn.PlainCycle.{Measures, is, falls, and}
 use Rattle.model.specs.Words.{bitOf}
 use Rattle.board.proofs.Searching.{Passed, passed-none, passed-more}
 use Rattle.game.proofs.MaskLaws.{power-within}
-use Rattle.game.proofs.PlayLaws.{windKeeps, blockKeeps, held-inside, hers-inside, wind-won, block-won, wind-out, block-out}
+use Rattle.game.proofs.PlayLaws.{windKeeps, blockKeeps, held-inside, more-inside, wind-won, block-won, wind-out, block-out}
 use Rattle.game.proofs.PlayLaws.{wind-takes, wind-waits, block-takes, block-waits, wind-next, block-next}
 use Rattle.game.proofs.PlayLaws.{wind-judged, block-judged, wind-held, block-held}
 use Rattle.game.proofs.masks.alone.Reads as alone-reads
 use Rattle.game.proofs.masks.has.Reads as has-reads
-use Rattle.game.proofs.play.is_blockers.Reads as is-blockers-reads
-use Rattle.game.proofs.play.is_winders.Reads as is-winders-reads
+use Rattle.game.proofs.play.blocker_wins.Reads as blocker-wins-reads
+use Rattle.game.proofs.play.winder_wins.Reads as winder-wins-reads
 use Rattle.game.proofs.play.block.Reads as block
 use Rattle.game.proofs.play.block.Kinds as block-kinds
 use Rattle.game.proofs.play.+block+wind.Lts-block as block-lts
@@ -55,8 +55,8 @@ block-calls t = (
   alone-reads.Learnt,
   wind-below t,
   wind.Post,
-  is-blockers-reads.Asked,
-  is-blockers-reads.Learnt,
+  blocker-wins-reads.Asked,
+  blocker-wins-reads.Learnt,
 )
 
 abbrev block-Inv-loop : block-lts.InvT-loop
@@ -96,10 +96,10 @@ block-sub-rest t c = omega (arith, c .alone .ensures, power-within (c .before .b
 block-wind-requires : (t : ℕ) → block-lts.Need-wind-requires (block-calls t) (block-at t) block.Post block-Inv-loop block-μ-loop
 block-wind-requires t c κs =
     let start = c .before .before .before .before .before .before .before .before .before .before in
-    (omega (arith, start .pre .0, c .before .before .before .before .before .before .if2 .left), block-next _ _ _ _ (start .pre .1) _ (block-free t c) _ (c .alone .ensures))
+    (omega (arith, start .pre .0, c .before .before .before .before .before .before .if2 .left), block-next _ _ _ _ (start .pre .1) _ (c .before .before .before .loop-test .taken) (block-free t c) _ (c .alone .ensures))
 
-block-is-blockers-requires : (t : ℕ) → block-lts.Need-is-blockers-requires (block-calls t) (block-at t) block.Post block-Inv-loop block-μ-loop
-block-is-blockers-requires t c κs = tt
+block-blocker-wins-requires : (t : ℕ) → block-lts.Need-blocker-wins-requires (block-calls t) (block-at t) block.Post block-Inv-loop block-μ-loop
+block-blocker-wins-requires t c κs = tt
 
 block-cast-number : (t : ℕ) → block-lts.Need-cast-number (block-calls t) (block-at t) block.Post block-Inv-loop block-μ-loop
 block-cast-number t c = record { fits = omega (arith, c .before .before .before .before .before .before .loop-test .taken, c .before .before .before .before .before .before .before .before .before .before .before .before .before .pre .1 .few) }
@@ -113,7 +113,7 @@ block-returns-3 t c =
     (turn .before .loop .inv .1)
     (turn .loop-test .taken)
     (block-judged _ _ _ _ _ _ _ _ (answered .before .alone .ensures) (block-free t (answered .before)) (answered .wind .ensures)
-    ∙ sym (c .before .is-blockers .ensures)
+    ∙ sym (c .before .blocker-wins .ensures)
     ∙ c .if4 .taken)
 
 -- an edge that was passed: it isn't free, or the other has a reply
@@ -158,8 +158,8 @@ wind-calls t = (
   alone-reads.Learnt,
   block-below t,
   block.Post,
-  is-winders-reads.Asked,
-  is-winders-reads.Learnt,
+  winder-wins-reads.Asked,
+  winder-wins-reads.Learnt,
 )
 
 abbrev wind-Inv-loop : wind-lts.InvT-loop
@@ -194,7 +194,7 @@ wind-free : (t : ℕ) (c : wind-lts.After-alone (wind-calls t) (wind-at t) wind.
 wind-free t c = sym (c .before .before .has .ensures) ∙ c .before .if3 .taken
 
 wind-add-more : (t : ℕ) → wind-lts.Need-add-more (wind-calls t) (wind-at t) wind.Post wind-Inv-loop wind-μ-loop
-wind-add-more t c = record { fits = omega (arith, c .alone .ensures, hers-inside _ _ _ _ (c .before .before .before .before .before .before .before .before .before .before .pre .1) _ (wind-free t c)) }
+wind-add-more t c = record { fits = omega (arith, c .alone .ensures, more-inside _ _ _ _ (c .before .before .before .before .before .before .before .before .before .before .pre .1) _ (c .before .before .before .loop-test .taken) (wind-free t c)) }
 
 wind-sub-rest : (t : ℕ) → wind-lts.Need-sub-rest (wind-calls t) (wind-at t) wind.Post wind-Inv-loop wind-μ-loop
 wind-sub-rest t c = omega (arith, c .alone .ensures, power-within (c .before .before .before .before .before .before .before .before .before .before .args .masks .free) _ (wind-free t c))
@@ -202,10 +202,10 @@ wind-sub-rest t c = omega (arith, c .alone .ensures, power-within (c .before .be
 wind-block-requires : (t : ℕ) → wind-lts.Need-block-requires (wind-calls t) (wind-at t) wind.Post wind-Inv-loop wind-μ-loop
 wind-block-requires t c κs =
     let start = c .before .before .before .before .before .before .before .before .before .before in
-    (omega (arith, start .pre .0, c .before .before .before .before .before .before .if2 .left), wind-next _ _ _ _ (start .pre .1) _ (wind-free t c) _ (c .alone .ensures))
+    (omega (arith, start .pre .0, c .before .before .before .before .before .before .if2 .left), wind-next _ _ _ _ (start .pre .1) _ (c .before .before .before .loop-test .taken) (wind-free t c) _ (c .alone .ensures))
 
-wind-is-winders-requires : (t : ℕ) → wind-lts.Need-is-winders-requires (wind-calls t) (wind-at t) wind.Post wind-Inv-loop wind-μ-loop
-wind-is-winders-requires t c κs = tt
+wind-winder-wins-requires : (t : ℕ) → wind-lts.Need-winder-wins-requires (wind-calls t) (wind-at t) wind.Post wind-Inv-loop wind-μ-loop
+wind-winder-wins-requires t c κs = tt
 
 wind-cast-number : (t : ℕ) → wind-lts.Need-cast-number (wind-calls t) (wind-at t) wind.Post wind-Inv-loop wind-μ-loop
 wind-cast-number t c = record { fits = omega (arith, c .before .before .before .before .before .before .loop-test .taken, c .before .before .before .before .before .before .before .before .before .before .before .before .before .pre .1 .few) }
@@ -219,7 +219,7 @@ wind-returns-3 t c =
     (turn .before .loop .inv .1)
     (turn .loop-test .taken)
     (wind-judged _ _ _ _ _ _ _ _ (answered .before .alone .ensures) (wind-free t (answered .before)) (answered .block .ensures)
-    ∙ sym (c .before .is-winders .ensures)
+    ∙ sym (c .before .winder-wins .ensures)
     ∙ c .if4 .taken)
 
 -- an edge that was passed: it isn't free, or the other has a reply
@@ -269,7 +269,7 @@ pub +block+wind-spec : {M : Type 1} → statement M
     (block-alone-requires t)
     (block-sub-rest t)
     (block-wind-requires t)
-    (block-is-blockers-requires t)
+    (block-blocker-wins-requires t)
     (block-cast-number t)
     (block-returns-3 t)
     (block-add-e t)
@@ -287,7 +287,7 @@ pub +block+wind-spec : {M : Type 1} → statement M
     (wind-add-more t)
     (wind-sub-rest t)
     (wind-block-requires t)
-    (wind-is-winders-requires t)
+    (wind-winder-wins-requires t)
     (wind-cast-number t)
     (wind-returns-3 t)
     (wind-add-e t)

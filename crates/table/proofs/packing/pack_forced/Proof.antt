@@ -1,4 +1,4 @@
--- The player is the first value; the second is the edge and 1, or 0. Assumes nothing.
+-- The player is the first value; the second is one more than the edge, or 0. Assumes nothing.
 use Prim.Native.Nat.{_+_}
 use mathlib.Core.Path.{sym, ap, _∙_}
 use borrow.Author.Needs.{needs}
