@@ -43,13 +43,14 @@ extern "C" {
 
 /* Raised by one whenever a call changes: its parameters, its tests or its answers, or a call more or
  * less. Programs and library must be built from one version; nothing else keeps them together. */
-#define SURFACE_VERSION 8
+#define SURFACE_VERSION 9
 
-/* The largest number of vertices and of edges of a board, of edges of a board that is played on, and
- * of bytes of a text. */
+/* The largest number of vertices and of edges of a board, of edges of a board that is played on and of
+ * one that a trap is set on, and of bytes of a text. */
 #define SURFACE_VERTICES 1024
 #define SURFACE_EDGES 4096
 #define SURFACE_GAME_EDGES 10
+#define SURFACE_TRAP_EDGES 16
 #define SURFACE_TEXT 65536
 
 /* The counts of the buffers that surface_read fills. */
@@ -104,7 +105,8 @@ enum surface_refusal_number {
     SURFACE_REFUSED_PAST_LAST = 19,      /* the word, in its own sheet */
     SURFACE_REFUSED_GAME_EDGES = 20,     /* place 0 */
     SURFACE_REFUSED_POSITION_BYTE = 21,  /* the edge */
-    SURFACE_REFUSED_MOVE_COUNT = 22      /* place 0 */
+    SURFACE_REFUSED_MOVE_COUNT = 22,     /* place 0 */
+    SURFACE_REFUSED_TRAP_EDGES = 23      /* place 0 */
 };
 
 /* What a refusal's number says; where it speaks of the edge, the vertex, the side, the line or the
@@ -135,6 +137,7 @@ static inline const char *surface_refusal_text(unsigned number)
     case SURFACE_REFUSED_GAME_EDGES: return "the board of a game has more than 10 edges";
     case SURFACE_REFUSED_POSITION_BYTE: return "the edge has a position byte above 2";
     case SURFACE_REFUSED_MOVE_COUNT: return "Winder has neither as many edges as Blocker nor one more";
+    case SURFACE_REFUSED_TRAP_EDGES: return "the board of a trap has more than 16 edges";
     default: return "no refusal has this number";
     }
 }
@@ -158,6 +161,7 @@ static inline const char *surface_refusal_text(unsigned number)
 #define SURFACE_STACK_LIT_TOTAL 8192
 #define SURFACE_STACK_LIST_LIT 8192
 #define SURFACE_STACK_GAME 8192
+#define SURFACE_STACK_TRAP 73728
 
 /* Decodes. Fills `support` with 0 to 2 half-edges and `correction` with 0 or 1, a byte for each edge.
  * The correction has the syndrome, and may end at open vertices, which have none.
@@ -354,6 +358,24 @@ uint64_t surface_game(size_t vertices,
                       const uint8_t *marks, size_t marks_count,
                       const uint8_t *open, size_t open_count,
                       const uint8_t *position, size_t position_count);
+
+/* Finds a set of fewest edges on which the key misleads, on a board of at most SURFACE_TRAP_EDGES edges
+ * of which `loss` says which are lost. A set is a trap where the correction that surface_decode gives
+ * for its syndrome winds together with it: surface_verdict then says SURFACE_WOUND of the set.
+ *
+ * Fills `set` with a trap of fewest edges, a byte for each edge; which one, where there are several, is
+ * left open. All bytes are 0 where there is none. First value: its number of edges. Second: 1. Where
+ * there is no trap both are 0.
+ *
+ * There is a trap exactly where some loop winds, which on a board with open vertices may run from one
+ * of them to another, and the smallest has at most as many edges as the distance. With t lost edges on
+ * the board, and s edges of the trap not lost, t + 2s is no smaller than the distance. */
+uint64_t surface_trap(size_t vertices,
+                      const uint16_t *ends, size_t ends_count,
+                      const uint8_t *marks, size_t marks_count,
+                      const uint8_t *open, size_t open_count,
+                      const uint8_t *loss, size_t loss_count,
+                      uint8_t *set, size_t set_count);
 
 #ifdef __cplusplus
 }

@@ -11,7 +11,7 @@ uint64_t syndrome_words[SURFACE_SYNDROME_WORDS], loss_words[SURFACE_LOSS_WORDS];
 uint64_t returned;
 
 /* The rest of what they are lent, which the calls alone fill and read. */
-static uint8_t support[SURFACE_EDGES], shown[SURFACE_EDGES], face_bytes[SURFACE_VERTICES], text[SURFACE_TEXT];
+static uint8_t support[SURFACE_EDGES], shown[SURFACE_EDGES], set[SURFACE_EDGES], face_bytes[SURFACE_VERTICES], text[SURFACE_TEXT];
 static uint8_t unpacked_syndrome[SURFACE_SYNDROME], unpacked_loss[SURFACE_LOSS];
 static uint16_t list[SURFACE_VERTICES];
 
@@ -82,6 +82,11 @@ static void list_lit(void) { returned = surface_list_lit(vertices, syndrome_word
 
 static void game(void) { returned = surface_game(vertices, ends, 2 * edges, marks, edges, open_bytes, vertices, position, edges); }
 
+static void trap(void)
+{
+    returned = surface_trap(vertices, ends, 2 * edges, marks, edges, open_bytes, vertices, loss, edges, set, edges);
+}
+
 struct call calls[CALLS] = {
     {"surface_decode", decode, SURFACE_STACK_DECODE, 0, false, false},
     {"surface_decode_rounds", decode_rounds, SURFACE_STACK_DECODE_ROUNDS, 0, false, false},
@@ -99,4 +104,5 @@ struct call calls[CALLS] = {
     {"surface_lit_total", lit_total, SURFACE_STACK_LIT_TOTAL, 0, false, false},
     {"surface_list_lit", list_lit, SURFACE_STACK_LIST_LIT, 0, false, false},
     {"surface_game", game, SURFACE_STACK_GAME, 0, false, false},
+    {"surface_trap", trap, SURFACE_STACK_TRAP, 0, false, false},
 };

@@ -42,6 +42,7 @@ enum {
     LIT_TOTAL,
     LIST_LIT,
     GAME,
+    TRAP,
     CALLS
 };
 

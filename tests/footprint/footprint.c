@@ -74,6 +74,7 @@ static void measure_board(void)
     measure(VERDICT);
     measure(DISTANCE);
     measure(GAME);
+    measure(TRAP);
     measure(WRITE);
     text_count = surface_refusal(returned) == SURFACE_NOT_REFUSED ? surface_first(returned) : 0;
     measure(READ);
@@ -283,6 +284,38 @@ static void longest_games(void)
     memset(position, 0, sizeof position);
 }
 
+/* Traps on as many edges as there may be, among as many vertices: on a ring, first with nothing lost, so that half of it is a trap, then with
+ * every third edge lost; then on the ring without a mark, on which all sets are tried. Then with every other vertex open, and the mark again.
+ * At last a loss byte above 1, and an edge too many. */
+static void largest_traps(void)
+{
+    vertices = SURFACE_VERTICES;
+    edges = SURFACE_TRAP_EDGES;
+    memset(open_bytes, 0, sizeof open_bytes);
+    memset(loss, 0, sizeof loss);
+    for (size_t e = 0; e < edges; e++) {
+        ends[2 * e] = (uint16_t)(vertices - 1 - e);
+        ends[2 * e + 1] = (uint16_t)(vertices - 1 - (e + 1) % edges);
+        marks[e] = 0;
+    }
+    marks[edges - 1] = 3;
+    measure(TRAP);
+    for (size_t e = 0; e < edges; e += 3)
+        loss[e] = 1;
+    measure(TRAP);
+    marks[edges - 1] = 0;
+    measure(TRAP);
+    for (size_t v = 0; v < vertices; v += 2)
+        open_bytes[v] = 1;
+    marks[edges - 1] = 3;
+    measure(TRAP);
+    loss[edges - 1] = 2;
+    measure(TRAP);
+    loss[edges - 1] = 0;
+    edges++;
+    measure(TRAP);
+}
+
 /* The torus of side 1, whose edges are loop edges; one vertex without an edge, and none; the planar board of side 2; the stack of side 1
  * that is read once. */
 static void smallest(void)
@@ -315,6 +348,7 @@ int main(void)
     most_edges();
     long_path();
     longest_games();
+    largest_traps();
     smallest();
 
     bool good = true;

@@ -17,10 +17,10 @@ static void hold(int kept, const char *what)
 /* Each number up to the last has a sentence of its own, but for 5, which is not in use: it and the numbers past the last share one more. */
 static void hold_sentences(void)
 {
-    const char *none = surface_refusal_text(SURFACE_REFUSED_MOVE_COUNT + 1);
+    const char *none = surface_refusal_text(SURFACE_REFUSED_TRAP_EDGES + 1);
     for (unsigned number = 0; number <= 256; number++) {
         const char *text = surface_refusal_text(number);
-        if (number == 5 || number > SURFACE_REFUSED_MOVE_COUNT) {
+        if (number == 5 || number > SURFACE_REFUSED_TRAP_EDGES) {
             hold(strcmp(text, none) == 0, "a number that no refusal has");
             continue;
         }
@@ -45,7 +45,8 @@ int main(void)
     hold(SURFACE_SYNDROME == 1024 && SURFACE_LOSS == 4096, "the reader's other buffers");
     hold(SURFACE_SYNDROME_WORDS == 16 && SURFACE_LOSS_WORDS == 64, "the words of a packed sheet");
     hold(SURFACE_GAME_EDGES == 10 && SURFACE_WINDER == 1 && SURFACE_BLOCKER == 2, "the game");
-    hold(SURFACE_VERSION >= 8, "the version");
+    hold(SURFACE_TRAP_EDGES == 16, "the trap");
+    hold(SURFACE_VERSION >= 9, "the version");
     hold_sentences();
     return failures == 0 ? 0 : 1;
 }

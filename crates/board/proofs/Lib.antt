@@ -1,6 +1,8 @@
 pub mod Searching
 pub mod Bounding
 pub mod CopyLaws
+pub mod MaskBytes
+pub mod FilledFronts
 pub mod Failures
 pub mod Passing
 pub mod Validity

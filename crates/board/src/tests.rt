@@ -45,7 +45,13 @@ pub fn check_bytes(syndrome: &[u8], loss: &[u8]) -> Check
 }
 
 // The tests 1 to 4 and 6 of a board; `others` says whether each buffer lent beside it has its length.
-fn check_board(vertices: usize, ends: &[u16], marks: &[u8], opened: &[u8], others: bool) -> Check
+pub fn check_board(
+    vertices: usize,
+    ends: &[u16],
+    marks: &[u8],
+    opened: &[u8],
+    others: bool,
+) -> Check
     ensures { λ r. ⌜ testOf r ≡ refusalOf (boardRules (boardLent vertices ends marks opened) others) ⌝ }
 {
     let fit = (marks.len() == ends.len() / 2) & (opened.len() == vertices) & others;

@@ -16,7 +16,7 @@ use Rattle.model.proofs.Xor.{not-false-true, and-left, and-right, and-both}
 use Rattle.model.proofs.SumLaws.{some-found, some-none}
 use Rattle.theory.proofs.CrossedLines.{winds-cong}
 use Rattle.theory.proofs.JoinedLabels.{same-test}
-use Rattle.theory.proofs.Distances.{Made, made-with, made-without, made-whole}
+use Rattle.theory.proofs.FewestSets.{Made, made-with, made-without, made-whole}
 use Rattle.game.proofs.MaskLaws.{bits-without}
 
 -- D has no edges but those of H

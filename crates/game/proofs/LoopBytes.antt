@@ -1,4 +1,4 @@
--- The bytes of a mask's edges, and those of the table, one after the other. Assumes nothing.
+-- The bytes of the table, one after the other. Assumes nothing.
 use Prim.Native.Nat.{ℕ, _+_, _-_, _^_, _≤_, _<_}
 use mathlib.Core.Path.{_≡_, refl, sym, ap, _∙_}
 use mathlib.Core.Bool.{Bool, true, false, _&&_}
@@ -18,30 +18,11 @@ use Rattle.model.specs.Game.{holdsLoop}
 use Rattle.model.specs.Refusals.{gameLimit}
 use Rattle.model.proofs.Bits.{eqb-bit}
 use Rattle.model.proofs.SumLaws.{below-suc, some-cong}
+use Rattle.board.proofs.MaskBytes.{cast-bit}
 use Rattle.game.specs.Searching.{setLimit}
-use Rattle.game.specs.LoopTable.{Spread, Filled}
-use Rattle.game.proofs.MaskLaws.{cast-bit, power-within}
+use Rattle.game.specs.LoopTable.{Filled}
+use Rattle.game.proofs.MaskLaws.{power-within}
 use Rattle.game.proofs.HeldLoops.{holdsLess, holds-less, holds-whole}
-
--- The edges of a mask
-
-pub spread-none : (x : ℕ) {l : List ℕ} → length l ≡ gameLimit → Spread x 0 l
-spread-none x long = record { long = long; at = λ e h. absurd (not-suc-le-zero h) }
-
-pub spread-more : {x e b : ℕ} {l : List ℕ} → b ≡ bit (bitOf x e) → e < gameLimit → Spread x e l → Spread x (e + 1) (set l e b)
-spread-more {x} {e} {b} {l} is room s =
-    record {
-      long = length-set l e b ∙ s .long;
-      at = λ i h. below-suc e i (omega arith)
-          (λ less. getD-set-other l e i b 0 (λ q. omega arith) ∙ s .at i less)
-          (λ last. rw last (getD-set-same l e b 0 (omega (arith, s .long)) ∙ is));
-    }
-
--- all edges are spread
-pub spread-all : {x e m : ℕ} {l : List ℕ} → e ≡ m → Spread x e l → Spread x m l
-spread-all same s = rw (← same) s
-
--- The table
 
 -- every mask has a byte
 pub set-inside : (m x : ℕ) → m ≤ gameLimit → x < 2 ^ m → x < setLimit

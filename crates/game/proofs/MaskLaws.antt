@@ -6,7 +6,6 @@ use native.Mathlib.Nat.{not-suc-le-zero, le-of-suc-le-suc, pow-succ', div-eq-of-
 use native.Mathlib.Decide.{decLt}
 use native.Mathlib.Omega.{arith}
 use borrow.Author.Tests.{eq-eqb, ne-eqb}
-use mir.Val.{boolByte}
 use Rattle.model.specs.Sums.{Set, bit, countUpTo}
 use Rattle.model.specs.Correction.{without}
 use Rattle.model.specs.Words.{bitOf, numberWith}
@@ -14,11 +13,6 @@ use Rattle.model.proofs.Bits.{bit-bound}
 use Rattle.model.proofs.CountLaws.{count-more}
 use Rattle.model.proofs.EqualTests.{eqb-alike}
 use Rattle.theory.proofs.BitLaws.{number-cong, number-bit, number-of-bits}
-
--- a truth value cast to a number
-pub cast-bit : (b : Bool) → boolByte b ≡ bit b
-cast-bit true = refl
-cast-bit false = refl
 
 -- an edge more is its power more
 pub number-more : (d e : ℕ) (f : Set) → e < d → f e ≡ true → numberWith d f ≡ numberWith d (without f e) + 2 ^ e

@@ -4,24 +4,21 @@ use mathlib.Core.Path.{_≡_, refl, sym, ap, _∙_}
 use mathlib.Core.Bool.{Bool, true, false, not}
 use mathlib.Core.List.{List}
 use mathlib.Core.Option.{Option, none, some}
-use native.Mathlib.Omega.{arith}
 use lib.Dec.{eqb}
-use lib.ListN.{getD, take, replicate}
-use lib.Seq.{getD-take, length-take-le}
-use Rattle.model.specs.Sums.{Set, _⊕_, bit, ones, firstUpTo}
+use lib.ListN.{take, replicate}
+use Rattle.model.specs.Sums.{Set, _⊕_, ones, bytes, firstUpTo}
 use Rattle.model.specs.Board.{Board, edges, ValidBytes}
 use Rattle.model.specs.Syndrome.{syndrome}
 use Rattle.model.specs.Winding.{closed, winds, crossings, together}
 use Rattle.model.specs.Verdict.{differs, judgedAt, judged}
 use Rattle.model.specs.Words.{bitOf}
 use Rattle.model.proofs.Xor.{xor-false}
-use Rattle.model.proofs.Bits.{bit-bound, eqb-bit}
 use Rattle.model.proofs.SumLaws.{some-here, none-some, none-first, first-found}
-use Rattle.model.proofs.ListLaws.{front-replicate, zero-everywhere}
+use Rattle.model.proofs.ListLaws.{front-replicate, zero-everywhere, ones-bytes, bytes-valid}
 use Rattle.model.proofs.OpenBytes.{zeros-valid}
 use Rattle.theory.proofs.CrossedLines.{crossings-cong, winds-cong}
-use Rattle.verdict.specs.Judging.{Judgeable}
-use Rattle.game.specs.LoopTable.{isWound, Small, Spread}
+use Rattle.verdict.specs.Judging.{Judgeable, isWound}
+use Rattle.game.specs.LoopTable.{Small}
 
 -- the front of an array of zeros: bytes of no vertex, and of no edge
 module _ (n k : ℕ) (h : n ≤ k) where
@@ -67,31 +64,22 @@ module _ (B : Board) (S C H : Set) (unlit : (v : ℕ) → v < B .vertices → S 
 
 -- The same of a mask, by the bytes of its edges
 
-module _ (B : Board) (x : ℕ) (handed : List ℕ) (small : Small B) (spread : Spread x (edges B) handed) where
-  spread-byte : (e : ℕ) → e < edges B → getD (take (edges B) handed) e 0 ≡ bit (bitOf x e)
-  spread-byte e l = getD-take (edges B) handed e 0 l ∙ spread .at e l
-
-  pub mask-judgeable :
-      Judgeable B (take (B .vertices) (replicate 1024 0)) (take (edges B) handed) (take (edges B) (replicate 10 0))
+module _ (B : Board) (x : ℕ) (handed : List ℕ) (small : Small B) (spread : handed ≡ bytes (edges B) (bitOf x)) where
+  pub mask-judgeable : Judgeable B (take (B .vertices) (replicate 1024 0)) handed (take (edges B) (replicate 10 0))
   mask-judgeable =
       record {
         inside = small .inside;
         open-bytes = small .open-bytes;
         syndrome-bytes = front-valid (B .vertices) 1024 (small .inside .vertex-limit);
-        handed-bytes =
-            record {
-              count = length-take-le (edges B) handed (omega (arith, spread .long, small .few));
-              each = λ e l. rw (spread-byte e l) (bit-bound (bitOf x e));
-            };
+        handed-bytes = rw spread (bytes-valid (edges B) (bitOf x));
         correction-bytes = front-valid (edges B) 10 (small .few);
         unlit = λ v l o. zeros-out (B .vertices) 1024 (small .inside .vertex-limit) v;
       }
 
-  pub mask-wound :
-      isWound (judged B (ones (take (B .vertices) (replicate 1024 0))) (ones (take (edges B) (replicate 10 0))) (ones (take (edges B) handed)))
+  pub mask-wound : isWound (judged B (ones (take (B .vertices) (replicate 1024 0))) (ones (take (edges B) (replicate 10 0))) (ones handed))
       ≡ winds B (bitOf x)
   mask-wound =
       wound-exactly B _ _ _
       (λ v l. zeros-out (B .vertices) 1024 (small .inside .vertex-limit) v)
       (λ e l. zeros-out (edges B) 10 (small .few) e)
-      ∙ winds-cong B (ones (take (edges B) handed)) (bitOf x) (λ e l. ap (λ y. eqb y 1) (spread-byte e l) ∙ eqb-bit (bitOf x e))
+      ∙ winds-cong B (ones handed) (bitOf x) (λ e l. ap (λ y. ones y e) spread ∙ ones-bytes (edges B) (bitOf x) e l)

@@ -1,11 +1,8 @@
 -- The table of sets that contain a winding loop, while it is filled. No part of what a reader must believe. Assumes nothing.
 use Prim.Native.Nat.{ℕ, _≤_, _<_}
 use mathlib.Core.Path.{_≡_}
-use mathlib.Core.Bool.{Bool, true, false}
 use mathlib.Core.List.{List}
 use lib.ListN.{length, getD}
-use Rattle.model.specs.declared.answers.Verdict.{Verdict}
-use Rattle.model.specs.declared.answers.Verdict.the-variants.{Off, Same, Wound, Refused}
 use Rattle.model.specs.Sums.{bit}
 use Rattle.model.specs.Board.{Board, Inside, edges}
 use Rattle.model.specs.Words.{bitOf}
@@ -18,18 +15,6 @@ pub record Small (B : Board) : Type 0 where
   pub inside : Inside B
   pub open-bytes : length (B .opened) ≡ B .vertices
   pub few : edges B ≤ gameLimit
-
--- a verdict of wound
-abbrev pub isWound : Verdict → Bool
-isWound (Off v) = false
-isWound Same = false
-isWound (Wound x) = true
-isWound (Refused n) = false
-
--- the first m bytes are those of a mask's edges
-pub record Spread (set m : ℕ) (l : List ℕ) : Type 0 where
-  pub long : length l ≡ gameLimit
-  pub at : (e : ℕ) → e < m → getD l e 0 ≡ bit (bitOf set e)
 
 -- the bytes of all masks below k are right
 pub record Filled (B : Board) (k : ℕ) (loops : List ℕ) : Type 0 where

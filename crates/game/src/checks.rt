@@ -1,6 +1,6 @@
 // The tests of what the game is lent.
-use crate::counting::count;
 use board::bytes::edge_above;
+use board::counting::count;
 use board::outcome::Check;
 use board::outcome::FoundEdge;
 use board::tests::check_whole_board;

@@ -1,17 +1,16 @@
 // The game of Winder and Blocker: who can force the win from a position, and the smallest edge that keeps it.
 mod checks;
-mod counting;
 mod loops;
 mod masks;
 mod play;
 
 use crate::checks::check_game;
-use crate::counting::count;
 use crate::loops::fill_loops;
 use crate::masks::Masks;
 use crate::masks::mask;
 use crate::play::block;
 use crate::play::wind;
+use board::counting::count;
 use board::outcome::Check;
 use model::answers::Forced;
 use model::answers::Game;

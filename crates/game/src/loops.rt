@@ -1,10 +1,11 @@
 // For every set of edges, whether it contains a winding loop: a table with a byte for each mask.
-use crate::masks::alone;
-use crate::masks::has;
-use model::answers::Verdict;
+use board::masks::alone;
+use board::masks::has;
+use board::masks::spread;
 use model::limits::GAME_EDGES;
 use model::limits::GAME_SETS;
 use model::limits::VERTICES;
+use verdict::judge::is_wound;
 use verdict::judge::judge;
 ghost use mathlib.Core.Path.{_≡_};
 ghost use mathlib.Core.Bool.{_&&_};
@@ -18,30 +19,7 @@ ghost use Rattle.model.specs.Words.{bitOf};
 ghost use Rattle.model.specs.Refusals.{gameLimit};
 ghost use Rattle.model.specs.Game.{holdsLoop};
 ghost use Rattle.game.specs.Searching.{setLimit};
-ghost use Rattle.game.specs.LoopTable.{isWound, Small, Spread, Filled};
-
-// The edges of a mask as bytes.
-fn spread(set: usize, edges: usize, bytes: &mut [u8; GAME_EDGES])
-    requires { ⌜ (edges ≤ gameLimit) × (length (now bytes) ≡ gameLimit) ⌝ }
-    ensures { λ _. ⌜ Spread set edges (after bytes) ⌝ }
-{
-    let mut e = 0;
-    while e < edges {
-        bytes[e] = has(set, e) as u8;
-        e += 1;
-    }
-}
-
-fn is_wound(verdict: Verdict) -> bool
-    ensures { λ r. ⌜ r ≡ isWound verdict ⌝ }
-{
-    match verdict {
-        Verdict::Off(_) => false,
-        Verdict::Same => false,
-        Verdict::Wound(_) => true,
-        Verdict::Refused(_) => false,
-    }
-}
+ghost use Rattle.game.specs.LoopTable.{Small, Filled};
 
 // Says whether a set is a winding loop: whether, beside no correction for no syndrome, the verdict on it is wound.
 fn winding(vertices: usize, ends: &[u16], marks: &[u8], opened: &[u8], set: usize) -> bool
@@ -50,7 +28,7 @@ fn winding(vertices: usize, ends: &[u16], marks: &[u8], opened: &[u8], set: usiz
 {
     let edges = marks.len();
     let mut handed = [0u8; GAME_EDGES];
-    spread(set, edges, &mut handed);
+    spread(set, &mut handed[..edges]);
     let unlit = [0u8; VERTICES];
     let empty = [0u8; GAME_EDGES];
     is_wound(judge(

@@ -1,10 +1,10 @@
 // A position of the game as the search keeps it.
 ghost use mathlib.Core.Path.{_≡_};
-ghost use Prim.Native.Nat.{_^_, _≤_, _<_};
+ghost use Prim.Native.Nat.{_≤_};
 ghost use lib.Dec.{eqb};
 ghost use lib.ListN.{length, getD};
 ghost use Rattle.model.specs.Lent.{before};
-ghost use Rattle.model.specs.Words.{bitOf, numberWith};
+ghost use Rattle.model.specs.Words.{numberWith};
 ghost use Rattle.model.specs.Refusals.{gameLimit};
 
 // Bit e of `held` says that edge e is Winder's, bit e of `free` that it is free; `left` is the number of free edges.
@@ -26,20 +26,4 @@ pub(crate) fn mask(position: &[u8], value: u8) -> usize
         number = 2 * number + (position[k] == value) as usize;
     }
     number
-}
-
-// Says whether edge e is in a mask.
-pub(crate) fn has(mask: usize, e: usize) -> bool
-    requires { ⌜ e < 64 ⌝ }
-    ensures { λ r. ⌜ r ≡ bitOf mask e ⌝ }
-{
-    (mask >> e) % 2 == 1
-}
-
-// The mask of edge e alone.
-pub(crate) fn alone(e: usize) -> usize
-    requires { ⌜ e < 64 ⌝ }
-    ensures { λ r. ⌜ r ≡ 2 ^ e ⌝ }
-{
-    1 << e
 }

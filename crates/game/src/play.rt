@@ -1,8 +1,8 @@
 // Who can force the win, by two functions that call each other: Winder's choice is judged by Blocker's best reply, and the reverse. One
 // edge less is free at each call, so that no more than ten are under way inside the first.
 use crate::masks::Masks;
-use crate::masks::alone;
-use crate::masks::has;
+use board::masks::alone;
+use board::masks::has;
 use model::answers::Forced;
 use model::answers::Player;
 use model::limits::GAME_SETS;

@@ -6,7 +6,7 @@ use mathlib.Core.Logic.{_≢_}
 use native.Mathlib.Omega.{arith}
 use borrow.Author.Tests.{ne-eqb}
 use Rattle.model.specs.declared.refusal.Refusal.{Refusal}
-use Rattle.model.specs.declared.refusal.Refusal.the-variants.{VertexCount, EndCount, BufferLength, EndRange, MarkRange, SyndromeByte, LossByte, HandedByte, NoCorrection, TorusSide, TextLength, MalformedLine, TextBuffer, RoundCount, OpenByte, LitOpen, PlanarSide, PastLast, GameEdges, PositionByte, MoveCount}
+use Rattle.model.specs.declared.refusal.Refusal.the-variants.{VertexCount, EndCount, BufferLength, EndRange, MarkRange, SyndromeByte, LossByte, HandedByte, NoCorrection, TorusSide, TextLength, MalformedLine, TextBuffer, RoundCount, OpenByte, LitOpen, PlanarSide, PastLast, GameEdges, PositionByte, MoveCount, TrapEdges}
 use Rattle.model.specs.Refusals.{numberOf, placeOf}
 use Rattle.model.specs.Packing.{packed, packedRefusal, refusalNumber, placeIn, firstValue, secondValue, unpackedRefusal, unpacked}
 
@@ -21,8 +21,8 @@ unpacked-first first second h = omega arith
 pub unpacked-second : (first second : ℕ) → second < 2 ^ 24 → secondValue (packed first second) ≡ second
 unpacked-second first second h = omega arith
 
--- a refusal's number is 1 to 22, and never 5
-pub numbered : (n : Refusal) → (1 ≤ numberOf n) × (numberOf n ≤ 22) × (numberOf n ≢ 5)
+-- a refusal's number is 1 to 23, and never 5
+pub numbered : (n : Refusal) → (1 ≤ numberOf n) × (numberOf n ≤ 23) × (numberOf n ≢ 5)
 numbered VertexCount = (omega arith, omega arith, λ p. omega arith)
 numbered EndCount = (omega arith, omega arith, λ p. omega arith)
 numbered BufferLength = (omega arith, omega arith, λ p. omega arith)
@@ -44,6 +44,7 @@ numbered (PastLast w) = (omega arith, omega arith, λ p. omega arith)
 numbered GameEdges = (omega arith, omega arith, λ p. omega arith)
 numbered (PositionByte e) = (omega arith, omega arith, λ p. omega arith)
 numbered MoveCount = (omega arith, omega arith, λ p. omega arith)
+numbered TrapEdges = (omega arith, omega arith, λ p. omega arith)
 
 pub unpacked-number : (n : Refusal) → refusalNumber (packedRefusal n) ≡ numberOf n
 unpacked-number n = let small = numbered n .1 in omega arith
@@ -74,6 +75,7 @@ by-number (PastLast w) = refl
 by-number GameEdges = refl
 by-number (PositionByte e) = refl
 by-number MoveCount = refl
+by-number TrapEdges = refl
 
 -- The general law
 

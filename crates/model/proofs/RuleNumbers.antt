@@ -6,7 +6,7 @@ use mathlib.Core.Path.{_≡_, refl}
 use mathlib.Core.Bool.{Bool}
 use mathlib.Core.List.{List, [], _∷_}
 use Rattle.model.specs.Board.{Board, Sheet}
-use Rattle.model.specs.Refusals.{decodeRules, verdictRules, distanceRules, torusRules, planarRules, stackRules, facesRules, gameRules}
+use Rattle.model.specs.Refusals.{decodeRules, verdictRules, distanceRules, torusRules, planarRules, stackRules, facesRules, gameRules, trapRules}
 use Rattle.model.specs.TextOutcomes.{Buffers, readRules, writeRules}
 use Rattle.model.specs.WordRefusals.{packRules, unpackRules, litRules, decodePackedRules}
 use Rattle.model.specs.Precedence.{Numbered}
@@ -84,3 +84,8 @@ pub game-numbers : (B : Board) (position : List ℕ) → Numbered (1 ∷ 2 ∷ 3
 unfolding gameRules
 game-numbers B position =
     record { in-turn = (refl, (refl, (refl, (its-place 4, (its-place 6, (its-place 16, (refl, (its-place 21, (refl, tt))))))))) }
+
+pub trap-numbers : (B : Board) (loss set : List ℕ) → Numbered (1 ∷ 2 ∷ 3 ∷ 4 ∷ 6 ∷ 8 ∷ 16 ∷ 23 ∷ []) (trapRules B loss set)
+unfolding trapRules
+trap-numbers B loss set =
+    record { in-turn = (refl, (refl, (refl, (its-place 4, (its-place 6, (its-place 8, (its-place 16, (refl, tt)))))))) }

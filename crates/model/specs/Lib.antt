@@ -20,6 +20,7 @@ pub mod Histories
 pub mod Faces
 pub mod Words
 pub mod Game
+pub mod Traps
 pub mod Refusals
 pub mod WordRefusals
 pub mod Precedence
@@ -30,11 +31,13 @@ pub mod FacesOutcomes
 pub mod WordOutcomes
 pub mod Replies
 pub mod GameOutcomes
+pub mod TrapOutcomes
 pub mod MarkedSheets
 pub mod StackSheets
 pub mod FaceSheets
 pub mod WordSheets
 pub mod GameSheets
+pub mod TrapSheets
 pub mod Text
 pub mod LineNumbers
 pub mod TextOutcomes

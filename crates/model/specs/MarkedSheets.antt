@@ -21,7 +21,7 @@ use Rattle.model.specs.Forest.{takenUpTo, forest}
 use Rattle.model.specs.Correction.{oddSide, spanned, oddEnds, correction}
 use Rattle.model.specs.Decoding.{parts, inOddPart, smallestOdd, grownBy, peeled, supports, corrected, roundSupports, roundCorrected}
 use Rattle.model.specs.Demand3.{lostEdges, keptEdges}
-use Rattle.model.specs.Distance.{fewestFrom, fewest}
+use Rattle.model.specs.Distance.{fewestFrom, fewestWhere, fewest}
 use Rattle.model.specs.Torus.{torusEnds, torusMarks, torus}
 use Rattle.model.specs.Planar.{planarEnds, planarMarks, planarOpens, planar}
 use Rattle.model.specs.Refusals.{noneAt, decodeRefusal}
@@ -218,7 +218,7 @@ pub record MarkedSheets : Type 0 where
   pub side-two-distance : fewest sideTwo ≡ some 2
 
 pub marked-sheets : MarkedSheets
-unfolding members setOf sheet oddUpTo countUpTo someUpTo firstUpTo values oddEnd syndrome closed crossings winds labelsUpTo labels start clusters oddlyLit holdsOpen odd exposed boundary choiceUpTo choice swell weighted allOdd growFrom grown takenUpTo forest oddSide spanned oddEnds correction parts inOddPart smallestOdd grownBy peeled fewestFrom fewest torusEnds torusMarks torus planarEnds planarMarks planarOpens planar decodeRefusal keyOrNone decodeAnswer roundsOrNone roundsAnswer
+unfolding members setOf sheet oddUpTo countUpTo someUpTo firstUpTo values oddEnd syndrome closed crossings winds labelsUpTo labels start clusters oddlyLit holdsOpen odd exposed boundary choiceUpTo choice swell weighted allOdd growFrom grown takenUpTo forest oddSide spanned oddEnds correction parts inOddPart smallestOdd grownBy peeled fewestFrom fewestWhere fewest torusEnds torusMarks torus planarEnds planarMarks planarOpens planar decodeRefusal keyOrNone decodeAnswer roundsOrNone roundsAnswer
 marked-sheets =
     record {
       m1-key = record { answers = refl; corrects = refl };

@@ -8,7 +8,7 @@ use lib.Dec.{eqb}
 use Rattle.model.specs.Refusals.{numberOf, placeOf}
 use Rattle.model.specs.Game.{byteOf}
 use Rattle.model.specs.declared.refusal.Refusal.{Refusal}
-use Rattle.model.specs.declared.refusal.Refusal.the-variants.{VertexCount, EndCount, BufferLength, EndRange, MarkRange, SyndromeByte, LossByte, HandedByte, NoCorrection, TorusSide, TextLength, MalformedLine, TextBuffer, RoundCount, OpenByte, LitOpen, PlanarSide, PastLast, GameEdges, PositionByte, MoveCount}
+use Rattle.model.specs.declared.refusal.Refusal.the-variants.{VertexCount, EndCount, BufferLength, EndRange, MarkRange, SyndromeByte, LossByte, HandedByte, NoCorrection, TorusSide, TextLength, MalformedLine, TextBuffer, RoundCount, OpenByte, LitOpen, PlanarSide, PastLast, GameEdges, PositionByte, MoveCount, TrapEdges}
 use Rattle.model.specs.declared.answers.Decoded.{Decoded}
 use Rattle.model.specs.declared.answers.Decoded.the-variants as decoded
 use Rattle.model.specs.declared.answers.RoundsDecoded.{RoundsDecoded}
@@ -17,6 +17,8 @@ use Rattle.model.specs.declared.answers.Verdict.{Verdict}
 use Rattle.model.specs.declared.answers.Verdict.the-variants as verdict
 use Rattle.model.specs.declared.answers.Distance.{Distance}
 use Rattle.model.specs.declared.answers.Distance.the-variants as distance
+use Rattle.model.specs.declared.answers.Trap.{Trap}
+use Rattle.model.specs.declared.answers.Trap.the-variants as trap
 use Rattle.model.specs.declared.answers.Built.{Built}
 use Rattle.model.specs.declared.answers.Built.the-variants as built
 use Rattle.model.specs.declared.answers.Reading.{Reading}
@@ -101,6 +103,12 @@ abbrev pub packedGame : Game → ℕ
 packedGame (game.Named f) = packedForced f
 packedGame (game.Refused n) = packedRefusal n
 
+-- as the distance: the edges of the trap and 1, or 0 and 0 where there is none
+abbrev pub packedTrap : Trap → ℕ
+packedTrap (trap.Fewest k) = packed k 1
+packedTrap trap.Nothing = packed 0 0
+packedTrap (trap.Refused n) = packedRefusal n
+
 -- Taking apart
 
 -- bits 0 to 7, bits 8 to 63, bits 8 to 39 and bits 40 to 63 of a number below 2 ^ 64
@@ -140,6 +148,7 @@ refusalsAt at =
     ∷ GameEdges
     ∷ PositionByte (record { 0 = at })
     ∷ MoveCount
+    ∷ TrapEdges
     ∷ []
 
 -- the first refusal of a list that has the number n; where none has it, number 14
@@ -204,3 +213,10 @@ gameWith first second =
 
 unfoldable pub unpackedGame : ℕ → Game
 unpackedGame = unpacked game.Refused gameWith
+
+-- as with the distance
+abbrev pub trapWith : ℕ → ℕ → Trap
+trapWith first second = cond (eqb second 0) trap.Nothing (trap.Fewest first)
+
+unfoldable pub unpackedTrap : ℕ → Trap
+unpackedTrap = unpacked trap.Refused trapWith

@@ -1,4 +1,4 @@
--- Document 01, "Numbers and places", and document 02, K1, K3, K5, K7, K9 and K11: the number and the place of each refusal, and the rules
+-- Document 01, "Numbers and places", and document 02, K1, K3, K5, K7, K9, K11 and K12: the number and the place of each refusal, and the rules
 -- of each call in the order of their tests; those of calls on packed sheets stand in `WordRefusals`, those of the text in `TextOutcomes`.
 -- No refusal has number 5, which was that of equal ends. Assumes nothing.
 use Prim.Native.Nat.{ℕ, _+_, _*_, _/_, _%_}
@@ -8,7 +8,7 @@ use mathlib.Core.Option.{Option, none, some}
 use lib.ListN.{length, getD}
 use lib.Dec.{eqb, leb, ltb}
 use Rattle.model.specs.declared.refusal.Refusal.{Refusal}
-use Rattle.model.specs.declared.refusal.Refusal.the-variants.{VertexCount, EndCount, BufferLength, EndRange, MarkRange, SyndromeByte, LossByte, HandedByte, NoCorrection, TorusSide, TextLength, MalformedLine, TextBuffer, RoundCount, OpenByte, LitOpen, PlanarSide, PastLast, GameEdges, PositionByte, MoveCount}
+use Rattle.model.specs.declared.refusal.Refusal.the-variants.{VertexCount, EndCount, BufferLength, EndRange, MarkRange, SyndromeByte, LossByte, HandedByte, NoCorrection, TorusSide, TextLength, MalformedLine, TextBuffer, RoundCount, OpenByte, LitOpen, PlanarSide, PastLast, GameEdges, PositionByte, MoveCount, TrapEdges}
 use Rattle.model.specs.declared.answers.Player.the-variants.{Winder, Blocker}
 use Rattle.model.specs.Sums.{Set, ones, firstUpTo}
 use Rattle.model.specs.Board.{Board, Sheet, edges, firstEnd, secondEnd, vertexLimit, edgeLimit}
@@ -41,6 +41,7 @@ numberOf (PastLast w) = 19
 numberOf GameEdges = 20
 numberOf (PositionByte e) = 21
 numberOf MoveCount = 22
+numberOf TrapEdges = 23
 
 -- its place: an edge, a vertex, the side, a line or a word; where the table of document 01 has place 0, 0
 abbrev pub placeOf : Refusal → ℕ
@@ -65,6 +66,7 @@ placeOf (PastLast w) = w .0
 placeOf GameEdges = 0
 placeOf (PositionByte e) = e .0
 placeOf MoveCount = 0
+placeOf TrapEdges = 0
 
 -- A rule is kept or not as a whole, or broken at some of n places; each way to break it has its refusal.
 pub data Rule : Type 0 where
@@ -183,6 +185,13 @@ positionRule p = each (length p) (above 2 p) (λ e. PositionByte (record { 0 = e
 abbrev pub moveRule : List ℕ → Rule
 moveRule p = whole (eqb (heldCount Winder p) (heldCount Blocker p) || eqb (heldCount Winder p) (heldCount Blocker p + 1)) MoveCount
 
+-- Rule 23: a trap is set on at most 16 edges.
+abbrev pub trapLimit : ℕ
+trapLimit = 16
+
+abbrev pub trapEdgesRule : Board → Rule
+trapEdgesRule B = whole (leb (edges B) trapLimit) TrapEdges
+
 -- how many edges the ends stand for: what the other lengths are held to
 abbrev pub edgesOf : List ℕ → ℕ
 edgesOf ends = length ends / 2
@@ -268,6 +277,17 @@ gameRules B position =
 unfoldable pub gameRefusal : Board → List ℕ → Test
 unfolding gameRules
 gameRefusal B position = refusalOf (gameRules B position)
+
+-- The search for a trap is lent a board with its losses, and a buffer for the set. The losses come before the open bytes, as on a sheet.
+unfoldable pub trapRules : Board → List ℕ → List ℕ → List Rule
+unfolding boardRules
+trapRules B loss set =
+    let m = edgesOf (B .ends) in
+    boardRules B (sized loss m && sized set m) ++ (lossRule loss ∷ openRule (B .opened) ∷ trapEdgesRule B ∷ [])
+
+unfoldable pub trapRefusal : Board → List ℕ → List ℕ → Test
+unfolding trapRules
+trapRefusal B loss set = refusalOf (trapRules B loss set)
 
 -- The torus builder is lent buffers for 4L² ends and 2L² marks. A side that breaks rule 11 is refused first, whatever the lengths; any
 -- other length is then 3, also of the ends, which are to be filled and not given.

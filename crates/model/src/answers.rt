@@ -30,6 +30,13 @@ pub enum Distance {
     Refused(Refusal),
 }
 
+// What the search for a trap answers: the fewest edges of one, nothing where there is none, or a refusal.
+pub enum Trap {
+    Fewest(usize),
+    Nothing,
+    Refused(Refusal),
+}
+
 // What the builders of tori, planar boards and stacks answer: the vertex count, or a refusal.
 pub enum Built {
     Vertices(usize),

@@ -29,3 +29,6 @@ pub const LARGEST_PLANAR: usize = 31;
 pub const GAME_EDGES: usize = 10;
 
 pub const GAME_SETS: usize = 1024;
+
+// The largest number of edges of a board on which a trap is set.
+pub const TRAP_EDGES: usize = 16;

@@ -27,6 +27,7 @@ pub enum Refusal {
     GameEdges,
     PositionByte(Edge),
     MoveCount,
+    TrapEdges,
 }
 
 // The refusal's number.
@@ -55,6 +56,7 @@ pub fn number(refusal: Refusal) -> u8
         Refusal::GameEdges => 20,
         Refusal::PositionByte(_) => 21,
         Refusal::MoveCount => 22,
+        Refusal::TrapEdges => 23,
     }
 }
 
@@ -84,5 +86,6 @@ pub fn place(refusal: Refusal) -> usize
         Refusal::GameEdges => 0,
         Refusal::PositionByte(e) => e.0 as usize,
         Refusal::MoveCount => 0,
+        Refusal::TrapEdges => 0,
     }
 }

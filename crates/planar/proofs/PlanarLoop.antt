@@ -104,7 +104,7 @@ module _ (L : ℕ) (some : 1 ≤ L) where
   pub row-loop : LoopOf (planar L) L
   row-loop =
       record {
-        loop = rowZero L;
-        is-winding = marked-winds (planar L) (rowZero L) lineA row-closed row-crosses;
+        set = rowZero L;
+        holds = marked-winds (planar L) (rowZero L) lineA row-closed row-crosses;
         count = count-front (edges (planar L)) L enough;
       }

@@ -31,11 +31,11 @@ stack-loops-above L R w k = (
 -- the fewest edges of a winding loop of the torus are the fewest of one of the stack
 pub stack-least : (L R : ℕ) → StackWithin L R → (d : ℕ) → Least (torus L) d → Least (stack L R) d
 stack-least L R w d l =
-    let E = l .reached .loop in
+    let E = l .reached .set in
     record {
       reached = record {
-        loop = inLayerZero L E;
-        is-winding = layer-winds L R w E (l .reached .is-winding);
+        set = inLayerZero L E;
+        holds = layer-winds L R w E (l .reached .holds);
         count = layer-size L R w E ∙ l .reached .count;
       };
       least = λ D p. omega (arith, l .least (shadow L R D) (shadow-winds L R w D p), shadow-size L R w D);

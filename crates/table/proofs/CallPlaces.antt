@@ -7,12 +7,12 @@ use mathlib.Core.List.{List, [], _∷_}
 use native.Mathlib.Omega.{arith}
 use lib.ListN.{length}
 use lib.Dec.{eqb, leb}
-use Rattle.model.specs.declared.refusal.Refusal.the-variants.{VertexCount, EndCount, BufferLength, EndRange, MarkRange, SyndromeByte, LossByte, HandedByte, TorusSide, TextLength, TextBuffer, RoundCount, OpenByte, LitOpen, PlanarSide, PastLast, GameEdges, PositionByte, MoveCount}
+use Rattle.model.specs.declared.refusal.Refusal.the-variants.{VertexCount, EndCount, BufferLength, EndRange, MarkRange, SyndromeByte, LossByte, HandedByte, TorusSide, TextLength, TextBuffer, RoundCount, OpenByte, LitOpen, PlanarSide, PastLast, GameEdges, PositionByte, MoveCount, TrapEdges}
 use Rattle.model.specs.declared.answers.Player.the-variants.{Winder, Blocker}
 use Rattle.model.specs.Sums.{ones}
 use Rattle.model.specs.Board.{Board, Sheet, edges, vertexLimit, edgeLimit}
 use Rattle.model.specs.Decoding.{smallestOdd}
-use Rattle.model.specs.Refusals.{Test, tested, refusalOf, sized, edgesOf, outside, above, litOpen, boardSized, countRules, edgeRules, boardRules, byteRules, plainRules, openRule, openRules, sheetRules, sideRule, planarSideRule, lengthRule, handedRule, syndromeRule, decodeRefusal, verdictRefusal, distanceRefusal, torusRefusal, planarRefusal, stackSized, layerRules, stackRefusal, lossRule, facesSized, facesRefusal, gameLimit, gameRefusal, oddPartTest, noneAt, wholeRules}
+use Rattle.model.specs.Refusals.{Test, tested, refusalOf, sized, edgesOf, outside, above, litOpen, boardSized, countRules, edgeRules, boardRules, byteRules, plainRules, openRule, openRules, sheetRules, sideRule, planarSideRule, lengthRule, handedRule, syndromeRule, decodeRefusal, verdictRefusal, distanceRefusal, torusRefusal, planarRefusal, stackSized, layerRules, stackRefusal, lossRule, facesSized, facesRefusal, gameLimit, gameRefusal, oddPartTest, noneAt, wholeRules, trapLimit, trapRefusal}
 use Rattle.model.specs.Game.{heldCount}
 use Rattle.model.specs.Torus.{leastSide, largestSide}
 use Rattle.model.specs.Planar.{leastPlanar, largestPlanar, planarVertices, planarEdges}
@@ -34,6 +34,7 @@ use Rattle.faces.proofs.FaceTests.{bytes-allowed, handed-allowed as handed-few}
 use Rattle.packed.proofs.WordTests.{items-say, items-allow, pack-tests, unpack-tests, litCounts, lit-tests, lit-counts-say, before-open-tests, packed-tests}
 use Rattle.packed.proofs.Screening.{board-fits}
 use Rattle.game.proofs.GameTests.{playRules, game-tests, position-allowed}
+use Rattle.trap.proofs.TrapTests.{settingRules, trap-tests, loss-allowed}
 use Rattle.text.proofs.ReadOutcome.{fit}
 use Rattle.text.proofs.WriteOutcome.{textRules, write-tests}
 
@@ -146,6 +147,16 @@ game-small B position =
         first-below (length position) (above 2 position) (λ e. PositionByte (record { 0 = e })) (λ e l. omega arith),
         (unless-below (level || ahead) MoveCount (omega arith), tt),
       ),
+    )))
+
+pub trap-small : (B : Board) (loss set : List ℕ) → Small (trapRefusal B loss set)
+trap-small B loss set =
+    rw (trap-tests B loss set)
+    (else-below _ _ (board-small B _) (λ p.
+    let few = loss-allowed B loss set p in
+    rules-below (settingRules B loss) (
+      first-below (length loss) (above 1 loss) (λ e. LossByte (record { 0 = e })) (λ e l. omega arith),
+      (open-byte-small (B .opened) (open-allowed B _ p), (unless-below (leb (edges B) trapLimit) TrapEdges (omega arith), tt)),
     )))
 
 -- a side is the only place that isn't bounded by a test

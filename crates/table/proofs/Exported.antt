@@ -7,6 +7,7 @@ use Rattle.model.specs.declared.answers.Decoded.{Decoded}
 use Rattle.model.specs.declared.answers.RoundsDecoded.{RoundsDecoded}
 use Rattle.model.specs.declared.answers.Verdict.{Verdict}
 use Rattle.model.specs.declared.answers.Distance.{Distance}
+use Rattle.model.specs.declared.answers.Trap.{Trap}
 use Rattle.model.specs.declared.answers.Built.{Built}
 use Rattle.model.specs.declared.answers.Reading.{Reading}
 use Rattle.model.specs.declared.answers.Written.{Written}
@@ -17,6 +18,7 @@ use Rattle.model.specs.Board.{Board, Sheet}
 use Rattle.model.specs.Outcomes.{decodeAnswer, Decodes, DecodesSoundly, verdictAnswer, Judges, JudgesSoundly}
 use Rattle.model.specs.Outcomes.{distanceAnswer, Measures, torusAnswer, Builds, planarAnswer, BuildsPlanar}
 use Rattle.model.specs.GameOutcomes.{gameAnswer, Plays, PlaysSoundly}
+use Rattle.model.specs.TrapOutcomes.{trapAnswer, SetsTrap, TrapsSoundly}
 use Rattle.model.specs.FacesOutcomes.{facesAnswer, ShowsFaces, FacesSoundly}
 use Rattle.model.specs.StackOutcomes.{stackAnswer, BuildsStack, StacksSoundly}
 use Rattle.model.specs.RoundsOutcomes.{roundsAnswer, DecodesInRounds, RoundsSoundly}
@@ -25,8 +27,9 @@ use Rattle.model.specs.WordOutcomes.{decodePackedAnswer, DecodesPacked, Decodes
 use Rattle.model.specs.WordOutcomes.{unpackAnswer, Unpacks, UnpacksSoundly, litAnswer, Totals, TotalsSoundly, listAnswer, Lists}
 use Rattle.model.specs.Packing.{packedDecoded, packedRounds, packedVerdict, packedDistance, packedBuilt, packedReading, packedWritten}
 use Rattle.model.specs.Packing.{unpackedDecoded, unpackedRounds, unpackedVerdict, unpackedDistance, unpackedBuilt, unpackedReading, unpackedWritten}
+use Rattle.model.specs.Packing.{packedTrap, unpackedTrap}
 use Rattle.model.specs.Packing.{packedWords, packedLit, packedGame, unpackedWords, unpackedLit, unpackedGame}
-use Rattle.table.proofs.Returned.{decode-returned, rounds-returned, verdict-returned, distance-returned, game-returned, torus-returned, planar-returned, stack-returned, faces-returned, read-returned, write-returned, pack-returned, unpack-returned, lit-returned, list-returned, decode-packed-returned}
+use Rattle.table.proofs.Returned.{decode-returned, rounds-returned, verdict-returned, distance-returned, game-returned, trap-returned, torus-returned, planar-returned, stack-returned, faces-returned, read-returned, write-returned, pack-returned, unpack-returned, lit-returned, list-returned, decode-packed-returned}
 
 exported : {A : Type 0} (pack : A → ℕ) (unpack : ℕ → A) (P : A → Type 0) {a b : A} {r : ℕ} → unpack (pack b) ≡ b → a ≡ b → r ≡ pack a → P a
     → (r ≡ pack b) × P (unpack r)
@@ -75,6 +78,12 @@ pub game-exported : {B : Board} {position : List ℕ} {a : Game} {r : ℕ} → r
     → (r ≡ packedGame (gameAnswer B position)) × (Plays B position (unpackedGame r) × PlaysSoundly B position (unpackedGame r))
 game-exported {B} {position} p w =
     exported packedGame unpackedGame (λ g. Plays B position g × PlaysSoundly B position g) (game-returned B position) (w .0 .result) p w
+
+pub trap-exported : {B : Board} {loss set : List ℕ} {a : Trap} {l : List ℕ} {r : ℕ} → r ≡ packedTrap a
+    → SetsTrap B loss set a l × TrapsSoundly B loss set a l
+    → (r ≡ packedTrap (trapAnswer B loss set)) × (SetsTrap B loss set (unpackedTrap r) l × TrapsSoundly B loss set (unpackedTrap r) l)
+trap-exported {B} {loss} {set} {a} {l} p w =
+    exported packedTrap unpackedTrap (λ t. SetsTrap B loss set t l × TrapsSoundly B loss set t l) (trap-returned B loss set) (w .0 .result) p w
 
 pub torus-exported : {side : ℕ} {ends marks : List ℕ} {a : Built} {e m : List ℕ} {r : ℕ} → side < 2 ^ 32 → r ≡ packedBuilt a → Builds side ends marks a e m
     → (r ≡ packedBuilt (torusAnswer side ends marks)) × Builds side ends marks (unpackedBuilt r) e m

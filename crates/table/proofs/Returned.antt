@@ -14,6 +14,7 @@ use Rattle.model.specs.declared.answers.Decoded.the-variants as decoded
 use Rattle.model.specs.declared.answers.RoundsDecoded.the-variants as inRounds
 use Rattle.model.specs.declared.answers.Verdict.the-variants as verdict
 use Rattle.model.specs.declared.answers.Distance.the-variants as distance
+use Rattle.model.specs.declared.answers.Trap.the-variants as trap
 use Rattle.model.specs.declared.answers.Built.the-variants as built
 use Rattle.model.specs.declared.answers.Reading.the-variants as reading
 use Rattle.model.specs.declared.answers.Written.the-variants as written
@@ -33,11 +34,13 @@ use Rattle.model.specs.Rounds.{allOdd}
 use Rattle.model.specs.Decoding.{growths, corrected, rounds, roundCorrected}
 use Rattle.model.specs.Verdict.{differs, judgedAt, judged}
 use Rattle.model.specs.Distance.{fewest}
+use Rattle.model.specs.Traps.{fewestTrap}
+use Rattle.model.specs.TrapOutcomes.{trapOf, trapAnswer}
 use Rattle.model.specs.Game.{byteOf, forced}
 use Rattle.model.specs.Torus.{leastSide, largestSide}
 use Rattle.model.specs.Planar.{leastPlanar, largestPlanar, planarVertices, planarEdges}
 use Rattle.model.specs.Stack.{stackVertices}
-use Rattle.model.specs.Refusals.{placeOf, Test, sized, sideRule, planarSideRule, lengthRule, oddPartTest, decodeRefusal, verdictRefusal, distanceRefusal, torusRefusal, planarRefusal, stackRefusal, facesRefusal, gameLimit, gameRefusal}
+use Rattle.model.specs.Refusals.{placeOf, Test, sized, sideRule, planarSideRule, lengthRule, oddPartTest, decodeRefusal, verdictRefusal, distanceRefusal, trapRefusal, torusRefusal, planarRefusal, stackRefusal, facesRefusal, gameLimit, gameRefusal}
 use Rattle.model.specs.Outcomes.{answer, keyOrNone, decodeAnswer, judgedOrNone, verdictAnswer, distanceOf, distanceAnswer, torusAnswer, planarAnswer}
 use Rattle.model.specs.RoundsOutcomes.{roundsOrNone, roundsAnswer}
 use Rattle.model.specs.StackOutcomes.{stackAnswer}
@@ -48,11 +51,11 @@ use Rattle.model.specs.TextOutcomes.{Buffers, textLimit, readRefusal, readOutco
 use Rattle.model.specs.Words.{inWords, wordCount, litTotal, unpackedSheet}
 use Rattle.model.specs.WordRefusals.{packRefusal, unpackRefusal, litRefusal, decodePackedRefusal}
 use Rattle.model.specs.WordOutcomes.{packAnswer, unpackAnswer, litAnswer, listAnswer, decodePackedAnswer}
-use Rattle.model.specs.Packing.{packed, packedDecoded, packedRounds, packedVerdict, packedDistance, packedBuilt, packedReading, packedWritten, packedWords, packedLit, packedGame, unpackedDecoded, unpackedRounds, verdictWith, unpackedVerdict, distanceWith, unpackedDistance, unpackedBuilt, unpackedReading, unpackedWritten, unpackedWords, unpackedLit, playerWith, gameWith, unpackedGame}
+use Rattle.model.specs.Packing.{packed, packedDecoded, packedRounds, packedVerdict, packedDistance, packedBuilt, packedReading, packedWritten, packedWords, packedLit, packedGame, unpackedDecoded, unpackedRounds, verdictWith, unpackedVerdict, distanceWith, unpackedDistance, unpackedBuilt, unpackedReading, unpackedWritten, unpackedWords, unpackedLit, playerWith, gameWith, unpackedGame, packedTrap, trapWith, unpackedTrap}
 use Rattle.model.proofs.SumLaws.{count-bound}
 use Rattle.model.proofs.Packing.{unpacked-values, unpacked-refusal}
 use Rattle.model.proofs.Places.{PlaceBelow, answer-holds}
-use Rattle.theory.proofs.AnswerBounds.{count-limit, size-bound, differs-bound, crossings-bound, fewest-bound}
+use Rattle.theory.proofs.AnswerBounds.{count-limit, size-bound, differs-bound, crossings-bound, fewest-bound, trap-bound}
 use Rattle.theory.proofs.ReadBounds.{LineBelow, line-below}
 use Rattle.theory.proofs.RoundTrip.{written-read}
 use Rattle.model.proofs.Xor.{and-right}
@@ -66,10 +69,11 @@ use Rattle.stack.proofs.StackPasses.{stack-passes}
 use Rattle.torus.proofs.TorusValid.{torus-valid}
 use Rattle.faces.proofs.FaceTests.{faces-passes}
 use Rattle.game.proofs.GameTests.{game-passes}
+use Rattle.trap.proofs.TrapTests.{trap-passes}
 use Rattle.game.proofs.SoundPlay.{edge-below}
 use Rattle.packed.proofs.WordTests.{pack-passes, unpack-passes, lit-passes}
 use Rattle.packed.proofs.Screening.{packed-passes}
-use Rattle.table.proofs.CallPlaces.{roomy, decode-small, verdict-small, odd-small, distance-small, game-small, torus-side, planar-side, stack-side, faces-side, read-small, write-small, pack-small, unpack-small, lit-small, decode-packed-small}
+use Rattle.table.proofs.CallPlaces.{roomy, decode-small, verdict-small, odd-small, distance-small, game-small, trap-small, torus-side, planar-side, stack-side, faces-side, read-small, write-small, pack-small, unpack-small, lit-small, decode-packed-small}
 
 -- An answer comes back where the refusals of its test and what follows where it passes do.
 back : {A : Type 0} (pack : A → ℕ) (unpack : ℕ → A) {refused : Refusal → A} {else : A} (t : Test)
@@ -243,6 +247,27 @@ game-returned B position =
     (λ p.
     let play = game-passes B position p in
     game-forced (forced B position) (λ P e q. omega (arith, edge-below B position play P e q, play .few)))
+
+-- A trap: its edges, or none
+
+trap-refusal : (n : Refusal) → placeOf n < 2 ^ 56 → unpackedTrap (packedTrap (trap.Refused n)) ≡ trap.Refused n
+unfolding unpackedTrap
+trap-refusal n h = unpacked-refusal trap.Refused trapWith n h
+
+trap-fewest : (B : Board) (loss : List ℕ) → Valid B → unpackedTrap (packedTrap (trapOf (fewestTrap B loss))) ≡ trapOf (fewestTrap B loss)
+unfolding unpackedTrap
+trap-fewest B loss v = go (fewestTrap B loss) refl
+  where
+    go : (o : Option ℕ) → fewestTrap B loss ≡ o → unpackedTrap (packedTrap (trapOf o)) ≡ trapOf o
+    go none p = unpacked-values trap.Refused trapWith 0 0 (omega arith) (omega arith)
+    go (some k) p =
+        unpacked-values trap.Refused trapWith k 1 (omega (arith, trap-bound B loss k p, v .inside .edge-limit)) (omega arith)
+
+pub trap-returned : (B : Board) (loss set : List ℕ) → unpackedTrap (packedTrap (trapAnswer B loss set)) ≡ trapAnswer B loss set
+unfolding trapAnswer
+trap-returned B loss set =
+    back packedTrap unpackedTrap (trapRefusal B loss set) trap-refusal (roomy (trap-small B loss set))
+    (λ p. trap-fewest B loss (trap-passes B loss set p .board))
 
 -- The torus: L² vertices. A side is lent as 32 bits, to all builders.
 

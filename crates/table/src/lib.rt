@@ -3,6 +3,7 @@
 // of the verdict, with faces too, of the game, of the stack and of all calls on packed sheets, `sound` says what may be relied on, of the
 // same answer. The words of a packed syndrome are lent as `lit`, those of packed losses as `lost`.
 mod packing;
+mod trapping;
 
 use crate::packing::pack;
 use crate::packing::pack_decoded;

@@ -6,12 +6,13 @@ use model::answers::Game;
 use model::answers::Lit;
 use model::answers::Player;
 use model::answers::Reading;
+use model::answers::Trap;
 use model::answers::Verdict;
 use model::refusal::Refusal;
 use model::refusal::number;
 use model::refusal::place;
 ghost use mathlib.Core.Path.{_≡_};
-ghost use Rattle.model.specs.Packing.{packed, packedRefusal, packedDecoded, packedVerdict, packedReading, packedLit, packedForced, packedGame};
+ghost use Rattle.model.specs.Packing.{packed, packedRefusal, packedDecoded, packedVerdict, packedReading, packedLit, packedForced, packedGame, packedTrap};
 ghost use Rattle.model.specs.Game.{byteOf};
 
 pub(crate) fn pack(first: usize, second: usize) -> u64
@@ -99,5 +100,16 @@ pub(crate) fn pack_game(game: Game) -> u64
     match game {
         Game::Named(forced) => pack_forced(forced),
         Game::Refused(n) => pack_refusal(n),
+    }
+}
+
+// A trap: its edges, and 1; 0 and 0 where there is none.
+pub(crate) fn pack_trap(trap: Trap) -> u64
+    ensures { λ r. ⌜ r ≡ packedTrap trap ⌝ }
+{
+    match trap {
+        Trap::Fewest(edges) => pack(edges, 1),
+        Trap::Nothing => pack(0, 0),
+        Trap::Refused(n) => pack_refusal(n),
     }
 }

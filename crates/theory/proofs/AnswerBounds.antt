@@ -2,6 +2,7 @@
 use Prim.Native.Nat.{ℕ, _+_, _*_, _≤_, _<_}
 use mathlib.Core.Path.{_≡_}
 use mathlib.Core.Bool.{Bool, _&&_}
+use mathlib.Core.List.{List}
 use mathlib.Core.Option.{some}
 use native.Mathlib.Omega.{arith}
 use Rattle.model.specs.Sums.{Set, bit, ones, oddUpTo}
@@ -11,10 +12,12 @@ use Rattle.model.specs.Growth.{Policy}
 use Rattle.model.specs.Decoding.{grownBy}
 use Rattle.model.specs.Verdict.{differs}
 use Rattle.model.specs.Distance.{fewest}
+use Rattle.model.specs.Traps.{fewestTrap}
 use Rattle.model.proofs.Bits.{bit-bound}
 use Rattle.model.proofs.SumLaws.{count-bound, first-found}
 use Rattle.theory.proofs.GrowthRun.{grown-ends}
 use Rattle.theory.proofs.Distances.{fewest-least}
+use Rattle.theory.proofs.Traps.{trap-least}
 
 -- Decoding, by weighted growth or in rounds
 
@@ -45,4 +48,11 @@ crossings-bound B D =
 pub fewest-bound : (B : Board) (d : ℕ) → fewest B ≡ some d → d ≤ edges B
 fewest-bound B d p =
     let loop = fewest-least B d p .reached in
-    omega (arith, size-bound B (loop .loop), loop .count)
+    omega (arith, size-bound B (loop .set), loop .count)
+
+-- A trap
+
+pub trap-bound : (B : Board) (loss : List ℕ) (k : ℕ) → fewestTrap B loss ≡ some k → k ≤ edges B
+trap-bound B loss k p =
+    let trap = trap-least B loss k p .reached in
+    omega (arith, size-bound B (trap .set), trap .count)

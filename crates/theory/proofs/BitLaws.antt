@@ -4,10 +4,12 @@ use mathlib.Core.Path.{_≡_, refl, sym, ap, ap₂, _∙_, subst}
 use mathlib.Core.Bool.{false}
 use native.Mathlib.Nat.{le-of-suc-le-suc, not-suc-le-zero, pow-succ', div-div-eq-div-mul, div-eq-of-lt}
 use native.Mathlib.Omega.{arith}
+use lib.Count.{ones, ones-step, ones-le}
 use lib.Pow.{pow-mono}
-use Rattle.model.specs.Sums.{Set, bit}
+use Rattle.model.specs.Sums.{Set, bit, countUpTo}
 use Rattle.model.specs.Words.{bitOf, numberWith}
 use Rattle.model.proofs.Bits.{eqb-bit, bit-bound, byte-bit}
+use Rattle.model.proofs.SumLaws.{count-cong, count-bound}
 
 -- One number
 
@@ -36,6 +38,21 @@ half-below x d h = half (2 ^ d) (subst (λ b. x < b) (pow-succ' 2 d) h)
   where
     half : (b : ℕ) → x < 2 * b → x / 2 < b
     half b l = omega arith
+
+-- the first member apart
+count-first : (d : ℕ) (f : Set) → countUpTo (suc d) f ≡ bit (f 0) + countUpTo d (λ k. f (suc k))
+unfolding countUpTo
+count-first zero f = omega arith
+count-first (suc d) f = omega (arith, count-first d f)
+
+-- count_ones of a number of few bits
+pub ones-counted : (d x : ℕ) → x < 2 ^ d → ones x ≡ countUpTo d (bitOf x)
+ones-counted zero x h = omega (arith, ones-le 0 x h, count-bound 0 (bitOf x))
+ones-counted (suc d) x h =
+    let rest =
+    ones-counted d (x / 2) (half-below x d h) ∙ count-cong d (bitOf (x / 2)) (λ k. bitOf x (suc k)) (λ k l. sym (higher-bit x k))
+    in
+    omega (arith, ones-step x, lowest-bit x, rest, count-first d (bitOf x))
 
 -- Numbers made of bits
 

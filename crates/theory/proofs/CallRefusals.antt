@@ -24,17 +24,20 @@ use Rattle.model.specs.declared.answers.Reading.the-variants as reading
 use Rattle.model.specs.declared.answers.Packed.the-variants as packed
 use Rattle.model.specs.declared.answers.Lit.the-variants as lit
 use Rattle.model.specs.declared.answers.Game.the-variants as game
+use Rattle.model.specs.declared.answers.Trap.the-variants as trap
 use Rattle.model.specs.Board.{Board, Sheet, vertexLimit}
 use Rattle.model.specs.Torus.{leastSide, largestSide}
 use Rattle.model.specs.Planar.{leastPlanar, largestPlanar, planarVertices, planarEdges}
 use Rattle.model.specs.Stack.{stackVertices}
-use Rattle.model.specs.Refusals.{Rule, Test, refusalOf, numberOf, noneAt, sized, lengthRule, sideRule, planarSideRule, decodeRules, decodeRefusal, verdictRules, verdictRefusal, distanceRules, distanceRefusal, gameRules, gameRefusal, torusRules, torusRefusal, planarRules, planarRefusal, layerRules, readingRules, stackRules, stackRefusal, torusByteRules, facesRules, facesRefusal}
+use Rattle.model.specs.Refusals.{Rule, Test, refusalOf, numberOf, noneAt, sized, lengthRule, sideRule, planarSideRule, decodeRules, decodeRefusal, verdictRules, verdictRefusal, distanceRules, distanceRefusal, gameRules, gameRefusal, trapRules, trapRefusal, torusRules, torusRefusal, planarRules, planarRefusal, layerRules, readingRules, stackRules, stackRefusal, torusByteRules, facesRules, facesRefusal}
 use Rattle.model.specs.Outcomes.{answer, keyOrNone, decodeAnswer, judgedOrNone, verdictAnswer, distanceOf, distanceAnswer, torusAnswer}
 use Rattle.model.specs.RoundsOutcomes.{roundsOrNone, roundsAnswer}
 use Rattle.model.specs.FacesOutcomes.{torusSheet, facesAnswer}
 use Rattle.model.specs.Distance.{fewest}
 use Rattle.model.specs.Game.{forced}
 use Rattle.model.specs.GameOutcomes.{gameAnswer}
+use Rattle.model.specs.Traps.{fewestTrap}
+use Rattle.model.specs.TrapOutcomes.{trapOf, trapAnswer}
 use Rattle.model.specs.Text.{refused, readText}
 use Rattle.model.specs.TextOutcomes.{Buffers, readRules, readRefusal, readOutcome, counts, writeRules, writeRefusal}
 use Rattle.model.specs.Words.{wordCount, unpackedSheet, litTotal}
@@ -43,7 +46,7 @@ use Rattle.model.specs.WordOutcomes.{packAnswer, litAnswer, listAnswer, decodeP
 use Rattle.model.specs.Precedence.{Applies, here, there, NoneApplies, Decides, Smallest, AnswersSmallest}
 use Rattle.model.proofs.Contradiction.{zero-one}
 use Rattle.model.proofs.Xor.{and-left, and-right, not-false-true}
-use Rattle.model.proofs.RuleNumbers.{decode-numbers, verdict-numbers, distance-numbers, torus-numbers, planar-numbers, stack-numbers, faces-numbers, read-numbers, write-numbers, pack-numbers, unpack-numbers, lit-numbers, decode-packed-numbers, game-numbers}
+use Rattle.model.proofs.RuleNumbers.{decode-numbers, verdict-numbers, distance-numbers, torus-numbers, planar-numbers, stack-numbers, faces-numbers, read-numbers, write-numbers, pack-numbers, unpack-numbers, lit-numbers, decode-packed-numbers, game-numbers, trap-numbers}
 use Rattle.theory.proofs.Precedence.{empty-applies, decides-exactly, earlier-kept, other-number}
 use Rattle.theory.proofs.SmallestNumber.{smallest-exactly, answers-smallest}
 
@@ -115,6 +118,17 @@ pub game-answers : (B : Board) (position : List ℕ) (q : Refusal) → Applies (
     → AnswersSmallest (gameRules B position) game.Refused (gameAnswer B position)
 unfolding gameAnswer gameRefusal
 game-answers B position = answers-smallest (game-numbers B position) refl game.Refused (game.Named (forced B position))
+
+-- The search for a trap
+
+pub trap-smallest : (B : Board) (loss set : List ℕ) (r : Refusal) → (trapRefusal B loss set ≡ some r) ↔ Smallest (trapRules B loss set) r
+unfolding trapRefusal
+trap-smallest B loss set = smallest-exactly (trap-numbers B loss set) refl
+
+pub trap-answers : (B : Board) (loss set : List ℕ) (q : Refusal) → Applies (trapRules B loss set) q
+    → AnswersSmallest (trapRules B loss set) trap.Refused (trapAnswer B loss set)
+unfolding trapAnswer trapRefusal
+trap-answers B loss set = answers-smallest (trap-numbers B loss set) refl trap.Refused (trapOf (fewestTrap B loss))
 
 -- The reader
 

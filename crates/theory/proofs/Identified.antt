@@ -17,7 +17,7 @@ use Rattle.model.specs.Syndrome.{meets, oddEnd, syndrome}
 use Rattle.model.specs.Winding.{closed, crossings, winds, size}
 use Rattle.model.specs.Growth.{swell}
 use Rattle.model.specs.Demand3.{EveryLoopAbove}
-use Rattle.model.specs.Distance.{fewestFrom, fewest, lesser, with}
+use Rattle.model.specs.Distance.{fewestFrom, fewestWhere, fewest, lesser, with}
 use Rattle.model.specs.Identified.{orZero, gate, glued, gluedEnds, identified}
 use Rattle.model.specs.Outcomes.{ShowsLoop}
 use Rattle.model.proofs.Xor.{not-true-false}
@@ -169,13 +169,13 @@ module _ (B : Board) (r : Inside B) where
 
   -- The distance
 
-  fewest-from : (k : ℕ) (D : Set) → fewestFrom (identified B) k D ≡ fewestFrom B k D
+  fewest-from : (k : ℕ) (D : Set) → fewestFrom (identified B) (winds (identified B)) k D ≡ fewestFrom B (winds B) k D
   unfolding fewestFrom
   fewest-from zero D = ap (λ t. cond t (some (size B D)) none) (winds-identified D)
   fewest-from (suc e) D = ap₂ lesser (fewest-from e D) (fewest-from e (with e D))
 
   pub fewest-identified : fewest (identified B) ≡ fewest B
-  unfolding fewest
+  unfolding fewest fewestWhere
   fewest-identified = fewest-from (edges B) (λ i. false)
 
   pub shows-identified : (d : ℕ) (l : List ℕ) → ShowsLoop (identified B) d l → ShowsLoop B d l

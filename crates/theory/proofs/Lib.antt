@@ -33,12 +33,14 @@ pub mod RoundGrowth
 pub mod NothingLit
 pub mod Decodings
 pub mod SoundKeys
+pub mod FewestSets
 pub mod Distances
 pub mod Identified
 pub mod LoopEdges
 pub mod VerdictGround
 pub mod Spreading
 pub mod NotWinding
+pub mod Traps
 pub mod RoundTurns
 pub mod RoundSpread
 pub mod SoundRounds

@@ -158,7 +158,7 @@ module _ (B : Board) (e : ℕ) (h : e < edges B) (same : LoopEdge B e) where
       least-fewest B 1
       (record {
         reached =
-            record { loop = only e; is-winding = loop-winds w ∙ ap not (ne-eqb (mark B e) 0 marked); count = only-size B e h };
+            record { set = only e; holds = loop-winds w ∙ ap not (ne-eqb (mark B e) 0 marked); count = only-size B e h };
         least = winding-some B;
       })
 

@@ -87,7 +87,7 @@ module _ (L : ℕ) (some : 1 ≤ L) where
   pub row-loop : LoopOf (torus L) L
   row-loop =
       record {
-        loop = rowZero L;
-        is-winding = marked-winds (torus L) (rowZero L) lineA row-closed row-crosses;
+        set = rowZero L;
+        holds = marked-winds (torus L) (rowZero L) lineA row-closed row-crosses;
         count = row-count;
       }

@@ -3,5 +3,6 @@ mod CrossingCounts
 mod Clearing
 mod Judged
 mod LoadedBytes
+pub mod SetSyndromes
 pub mod SoundVerdicts
 pub mod VerdictAnswers

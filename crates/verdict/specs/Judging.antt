@@ -4,6 +4,7 @@ use mathlib.Core.List.{List}
 use Prim.Native.Nat.{ℕ}
 use lib.ListN.{length}
 use mathlib.Core.Path.{_≡_}
+use mathlib.Core.Bool.{Bool, true, false}
 use Rattle.model.specs.declared.answers.Verdict.{Verdict}
 use Rattle.model.specs.declared.answers.Verdict.the-variants.{Off, Same, Wound, Refused}
 use Rattle.model.specs.Sums.{ones, bytes}
@@ -20,6 +21,13 @@ pub record Judgeable (B : Board) (syndrome handed correction : List ℕ) : Type 
   pub handed-bytes : ValidBytes (edges B) handed
   pub correction-bytes : ValidBytes (edges B) correction
   pub unlit : Unlit B (ones syndrome)
+
+-- a verdict of wound
+abbrev pub isWound : Verdict → Bool
+isWound (Off v) = false
+isWound Same = false
+isWound (Wound x) = true
+isWound (Refused n) = false
 
 -- a sheet and a handed-in set that pass the tests, with two buffers for decoding
 pub record Comparable (X : Sheet) (handed support correction : List ℕ) : Type 0 where

@@ -37,7 +37,7 @@ fn count_edge(vertices: usize, ends: &[u16], handed: &[u8], e: Edge, parity: &mu
 }
 
 // Every edge is counted, from the syndrome put: what is left lit is where the handed-in set differs from it.
-pub(crate) fn count_edges(vertices: usize, ends: &[u16], handed: &[u8], parity: &mut [u8; VERTICES])
+pub fn count_edges(vertices: usize, ends: &[u16], handed: &[u8], parity: &mut [u8; VERTICES])
     requires { ⌜ EndsWithin vertices (length (now handed)) (now ends) × Bits vertices (now parity) ⌝ }
     ensures { λ _. ⌜ Flipped (metBy (before ends) (ones (before handed)) (length (before handed))) vertices
         (before parity) (after parity) ⌝ }
@@ -50,7 +50,7 @@ pub(crate) fn count_edges(vertices: usize, ends: &[u16], handed: &[u8], parity: 
 }
 
 // An open vertex has no syndrome: its byte becomes 0.
-pub(crate) fn clear_open(opened: &[u8], parity: &mut [u8; VERTICES])
+pub fn clear_open(opened: &[u8], parity: &mut [u8; VERTICES])
     requires { ⌜ Clearable (length (now opened)) (now parity) ⌝ }
     ensures { λ _. ⌜ Cleared (length (before opened)) (before opened) (before parity) (after parity) ⌝ }
 {

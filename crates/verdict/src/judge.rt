@@ -12,7 +12,7 @@ ghost use Rattle.model.specs.Board.{boardOf};
 ghost use Rattle.model.specs.Lent.{before, boardLent};
 ghost use Rattle.model.specs.Sums.{ones};
 ghost use Rattle.model.specs.Verdict.{judged};
-ghost use Rattle.verdict.specs.Judging.{Judgeable};
+ghost use Rattle.verdict.specs.Judging.{Judgeable, isWound};
 
 // Off with the smallest vertex, not open, at which the syndromes differ; otherwise same or wound, by the marks of the two sets together.
 pub fn judge(
@@ -40,4 +40,16 @@ pub fn judge(
         return Verdict::Same;
     }
     Verdict::Wound(x)
+}
+
+// Says whether a verdict is wound.
+pub fn is_wound(verdict: Verdict) -> bool
+    ensures { λ r. ⌜ r ≡ isWound verdict ⌝ }
+{
+    match verdict {
+        Verdict::Off(_) => false,
+        Verdict::Same => false,
+        Verdict::Wound(_) => true,
+        Verdict::Refused(_) => false,
+    }
 }

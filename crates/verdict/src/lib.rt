@@ -1,6 +1,6 @@
 // The verdict on a handed-in set.
 mod crossings;
-mod difference;
+pub mod difference;
 pub mod judge;
 
 use crate::judge::judge;

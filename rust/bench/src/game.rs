@@ -1,4 +1,4 @@
-//! The last table: the game of Winder and Blocker on boards of ten edges, from the start, where most is to
+//! The sixth table: the game of Winder and Blocker on boards of ten edges, from the start, where most is to
 //! be looked at.
 
 use std::hint::black_box;

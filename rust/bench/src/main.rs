@@ -1,6 +1,7 @@
 //! Prints the library's times beside those of programs with the same steps that keep no boundary
 //! sizes: one plain, one tuned with care, and one that counts from the other side; its times of
-//! decoding in rounds; and what a growth, each of the other calls, a packed sheet and a game costs.
+//! decoding in rounds; and what a growth, each of the other calls, a packed sheet, a game and a trap
+//! costs.
 //!
 //! All are built for release and run on one machine, on the same seeded sheets and into the same
 //! buffers, which are not cleared in between. Keys are compared on all sheets before a time is taken.
@@ -15,6 +16,7 @@ mod machine;
 mod packed;
 mod timing;
 mod tori;
+mod trap;
 
 use decoders::Decoders;
 
@@ -32,4 +34,6 @@ fn main() {
     packed::table();
     println!();
     game::table();
+    println!();
+    trap::table();
 }

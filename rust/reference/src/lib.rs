@@ -2,10 +2,10 @@
 //!
 //! Nothing here is clever or fast: each section of document 01 is one module, in its words, and so are
 //! growing in rounds ([`rounds`]), open sides ([`open_sides`], [`planar`]), repeated readings
-//! ([`stack`]), faces as evidence ([`faces`]), packed sheets ([`packed`]) and the game of Winder and
-//! Blocker ([`game`]), which document 02 adds. Beside them stand a second way to find the number of a
-//! malformed line ([`line_numbers`]), a seeded generator of random numbers, and the boards that
-//! decoders are tried on.
+//! ([`stack`]), faces as evidence ([`faces`]), packed sheets ([`packed`]), the game of Winder and
+//! Blocker ([`game`]) and traps ([`trap`]), which document 02 adds. Beside them stand a second way to
+//! find the number of a malformed line ([`line_numbers`]), a seeded generator of random numbers, and
+//! the boards that decoders are tried on.
 //!
 //! A set of vertices or edges is a slice with a byte for each, 0 or 1, as the calls are lent it.
 
@@ -30,6 +30,7 @@ pub mod rounds;
 pub mod stack;
 pub mod text;
 pub mod torus;
+pub mod trap;
 pub mod verdict;
 
 pub use board::{Board, Sheet};

@@ -2,11 +2,12 @@
 //! document 02, K3, equal ends break no rule, so that number 5 never occurs; by K5 the open bytes are
 //! tested after 8 and 9 and before 10; by K1 a stack's rounds are tested after its side and before any
 //! length; by K9 the verdict with faces tests the side before all else; by K7 words are tested right
-//! after 8; by K11 the game tests its own three after the board's.
+//! after 8; by K11 the game tests its own three after the board's, and by K12 a trap its one.
 
 use crate::board::{Board, EDGE_LIMIT, Sheet, VERTEX_LIMIT};
 use crate::game::GAME_LIMIT;
 use crate::packed::{PackedSheet, WORD, is_set, unpacked, words_of};
+use crate::trap::TRAP_LIMIT;
 
 /// Why a call refuses: the number of the rule that is broken, and where.
 #[derive(Clone, Copy, Debug, PartialEq, Eq)]
@@ -146,6 +147,22 @@ pub fn game(board: &Board, position: &[u8]) -> Test {
     first_place(21, position.len(), |edge| position[edge] > 2)?;
     let [winder, blocker] = [1, 2].map(|by| position.iter().filter(|&&byte| byte == by).count());
     unless(winder == blocker || winder == blocker + 1, 22, 0)
+}
+
+/// The tests of setting a trap, which is lent a buffer of this length to fill.
+pub fn trap(board: &Board, loss: &[u8], set: usize) -> Test {
+    let count = board.edges();
+    let lengths = [
+        (board.marks.len(), count),
+        (board.open.len(), board.vertices),
+        (loss.len(), count),
+        (set, count),
+    ];
+    counts(board, &lengths)?;
+    edges(board)?;
+    bytes(8, loss)?;
+    bytes(16, &board.open)?;
+    unless(count <= TRAP_LIMIT, 23, 0)
 }
 
 /// The tests of the torus builder, which is lent buffers of these lengths to fill. The lengths are

@@ -11,6 +11,9 @@ pub const EDGES: usize = 4096;
 /// The largest edge count of a board that [`game`](crate::game) is lent.
 pub const GAME_EDGES: usize = 10;
 
+/// The largest edge count of a board that [`trap`](crate::trap) is lent.
+pub const TRAP_EDGES: usize = 16;
+
 /// The largest number of bytes of a text that is read or written.
 pub const TEXT: usize = 65_536;
 

@@ -230,4 +230,18 @@ unsafe extern "C" {
         position: *const u8,
         position_count: usize,
     ) -> u64;
+
+    pub fn surface_trap(
+        vertices: usize,
+        ends: *const u16,
+        ends_count: usize,
+        marks: *const u8,
+        marks_count: usize,
+        open: *const u8,
+        open_count: usize,
+        loss: *const u8,
+        loss_count: usize,
+        set: *mut u8,
+        set_count: usize,
+    ) -> u64;
 }

@@ -38,8 +38,8 @@ mod refusal;
 mod returned;
 
 pub use board::{Board, PackedSheet, Sheet};
-pub use board::{EDGES, GAME_EDGES, LOSS_WORDS, SYNDROME_WORDS, TEXT, VERTICES};
+pub use board::{EDGES, GAME_EDGES, LOSS_WORDS, SYNDROME_WORDS, TEXT, TRAP_EDGES, VERTICES};
 pub use calls::{Counts, Game, Key, Player, RoundsKey, Verdict, WordCounts};
-pub use calls::{decode, decode_packed, decode_rounds, distance, faces, game, verdict};
+pub use calls::{decode, decode_packed, decode_rounds, distance, faces, game, trap, verdict};
 pub use calls::{list_lit, lit_total, pack, planar, read, stack, torus, unpack, write};
 pub use refusal::Refusal;

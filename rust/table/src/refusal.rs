@@ -73,6 +73,8 @@ pub enum Refusal {
     PositionByte(usize),
     /// Number 22: in the position Winder has neither as many edges as Blocker nor one more.
     MoveCount,
+    /// Number 23: the board of a trap has more than [`TRAP_EDGES`](crate::TRAP_EDGES) edges.
+    TrapEdges,
 }
 
 impl Refusal {
@@ -101,6 +103,7 @@ impl Refusal {
             Refusal::GameEdges => 20,
             Refusal::PositionByte(_) => 21,
             Refusal::MoveCount => 22,
+            Refusal::TrapEdges => 23,
         }
     }
 
@@ -115,7 +118,8 @@ impl Refusal {
             | Refusal::TextBuffer
             | Refusal::RoundCount
             | Refusal::GameEdges
-            | Refusal::MoveCount => 0,
+            | Refusal::MoveCount
+            | Refusal::TrapEdges => 0,
             Refusal::EndRange(place)
             | Refusal::MarkRange(place)
             | Refusal::SyndromeByte(place)
@@ -162,6 +166,7 @@ impl Refusal {
             20 => Refusal::GameEdges,
             21 => Refusal::PositionByte(game_edge?),
             22 => Refusal::MoveCount,
+            23 => Refusal::TrapEdges,
             _ => return None,
         };
         (refusal.place() == place).then_some(refusal)
@@ -206,6 +211,7 @@ impl fmt::Display for Refusal {
             Refusal::MoveCount => {
                 write!(to, "Winder has neither as many edges as Blocker nor one more")
             }
+            Refusal::TrapEdges => write!(to, "the board of a trap has more than 16 edges"),
         }
     }
 }
@@ -217,7 +223,7 @@ mod tests {
     use super::Refusal;
 
     /// Each number with its smallest and its largest place.
-    const PLACES: [(u8, u64, u64); 21] = [
+    const PLACES: [(u8, u64, u64); 22] = [
         (1, 0, 0),
         (2, 0, 0),
         (3, 0, 0),
@@ -239,6 +245,7 @@ mod tests {
         (20, 0, 0),
         (21, 0, 9),
         (22, 0, 0),
+        (23, 0, 0),
     ];
 
     #[test]
@@ -258,7 +265,7 @@ mod tests {
 
     #[test]
     fn other_numbers_are_no_refusal() {
-        for number in (23..=u8::MAX).chain([0, 5]) {
+        for number in (24..=u8::MAX).chain([0, 5]) {
             for place in [0, 1, 4095] {
                 assert_eq!(Refusal::new(number, place), None, "{number}");
             }

@@ -57,6 +57,25 @@ pub fn game(board: &Board, position: &[u8]) -> table::Game {
     }
 }
 
+/// The verdict on a set that is handed in for its own syndrome, with these edges lost.
+pub fn verdict_on(board: &Board, loss: &[u8], set: &[u8]) -> table::Verdict {
+    let syndrome = board.syndrome(set);
+    let sheet = table::Sheet { board: lent(board), syndrome: &syndrome, loss };
+    match table::verdict(sheet, set) {
+        Ok(verdict) => verdict,
+        Err(refusal) => panic!("{refusal}: {set:?}, lost {loss:?} on {board:?}"),
+    }
+}
+
+/// The fewest edges of a trap that is not refused, with the trap that was written.
+pub fn trap(board: &Board, loss: &[u8]) -> (Option<usize>, Vec<u8>) {
+    let mut set = vec![9; board.edges()];
+    match table::trap(lent(board), loss, &mut set) {
+        Ok(fewest) => (fewest, set),
+        Err(refusal) => panic!("{refusal}: lost {loss:?} on {board:?}"),
+    }
+}
+
 /// The distance of a board that keeps the rules, with the loop that was written.
 pub fn distance(board: &Board) -> (Option<usize>, Vec<u8>) {
     let mut shown = vec![0; board.edges()];

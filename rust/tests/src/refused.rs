@@ -4,9 +4,9 @@ use std::fmt::Debug;
 
 use reference::board::{Board, Sheet};
 use reference::packed::PackedSheet;
-use table::{GAME_EDGES, Refusal};
+use table::{GAME_EDGES, Refusal, TRAP_EDGES};
 
-use crate::{agrees, game, packed};
+use crate::{agrees, game, packed, trap};
 
 /// The number and the place of a refusal.
 pub fn refused<T: Debug>(answer: Result<T, Refusal>) -> (u8, u64) {
@@ -43,15 +43,16 @@ pub fn sheet_refused(sheet: &Sheet) -> (u8, u64) {
     refusal
 }
 
-/// They, the distance and the game refuse the sheet's board alike.
+/// They, the distance, the game and the trap refuse the sheet's board alike.
 pub fn board_refused(sheet: &Sheet) -> (u8, u64) {
     let refusal = refused(agrees::distance(&sheet.board));
     assert_eq!(refused(game::game(&sheet.board, &vec![0; sheet.board.edges()])), refusal);
+    assert_eq!(refused(trap::trap(&sheet.board, &sheet.loss)), refusal);
     assert_eq!(sheet_refused(sheet), refusal);
     refusal
 }
 
-/// None of the seven calls refuses, but for the game where there are too many edges.
+/// None of the eight calls refuses, but for the game and the trap where there are too many edges.
 pub fn none_refuses(sheet: &Sheet) {
     agrees::decode(sheet).expect("decoding");
     agrees::decode_rounds(sheet).expect("decoding in rounds");
@@ -60,6 +61,8 @@ pub fn none_refuses(sheet: &Sheet) {
     agrees::distance(&sheet.board).expect("distance");
     let played = game::game(&sheet.board, &vec![0; sheet.board.edges()]);
     assert_eq!(played.is_ok(), sheet.board.edges() <= GAME_EDGES, "the game: {played:?}");
+    let set = trap::trap(&sheet.board, &sheet.loss);
+    assert_eq!(set.is_ok(), sheet.board.edges() <= TRAP_EDGES, "the trap: {set:?}");
     agrees::write(sheet).expect("writing");
 }
 

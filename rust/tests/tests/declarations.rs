@@ -1,7 +1,10 @@
 //! The C header and the Rust crate declare the functions that the Rattle source exports, parameter
 //! by parameter. No compiler compares the three.
 
-const RATTLE: &str = include_str!("../../../crates/table/src/lib.rt");
+const RATTLE: &str = concat!(
+    include_str!("../../../crates/table/src/lib.rt"),
+    include_str!("../../../crates/table/src/trapping.rt"),
+);
 const HEADER: &str = include_str!("../../../include/surface_table.h");
 const CRATE: &str = include_str!("../../table/src/exported.rs");
 
@@ -84,7 +87,7 @@ fn in_words(parameters: &[String]) -> Vec<String> {
 #[test]
 fn declared_as_exported() {
     let exported = functions(RATTLE, "pub extern \"C\" fn ", in_rattle);
-    assert_eq!(exported.len(), 16);
+    assert_eq!(exported.len(), 17);
     let [decode, rounds, packed] = [&exported[0], &exported[1], &exported[2]];
     assert_eq!((decode.0.as_str(), decode.1.len()), ("surface_decode", 8));
     assert_eq!((rounds.0.as_str(), &rounds.1), ("surface_decode_rounds", &decode.1));

@@ -9,9 +9,8 @@ use reference::planar::planar;
 use reference::torus::torus;
 use table::Game;
 use table::Player::{self, Blocker, Winder};
-use table_tests::game::{
-    drawn_board, drawn_position, game, positions, small_boards, solved, spread,
-};
+use table_tests::few_edges::{drawn_board, small_boards, spread};
+use table_tests::game::{drawn_position, game, positions, solved};
 
 fn said(board: &Board, position: &[u8]) -> (Player, Option<usize>) {
     let Game { winner, edge } = game(board, position).expect("a position that is not refused");

@@ -6,7 +6,8 @@ use std::collections::{HashMap, HashSet};
 use reference::Random;
 use reference::board::Board;
 use table::{Game, Player};
-use table_tests::game::{drawn_board, drawn_position, positions, small_boards, take};
+use table_tests::few_edges::{drawn_board, small_boards};
+use table_tests::game::{drawn_position, positions, take};
 use table_tests::library;
 
 /// Winder moves first, then they take turns.

@@ -5,7 +5,8 @@ use reference::Random;
 use reference::board::Board;
 use reference::game::all_positions;
 use reference::generators::{Kind, crowd, opened, path};
-use table_tests::game::{drawn_board, drawn_position, game};
+use table_tests::few_edges::drawn_board;
+use table_tests::game::{drawn_position, game};
 use table_tests::refused::refused;
 
 /// The board of a game that is not refused, with as many edges as it may have and two vertices more than

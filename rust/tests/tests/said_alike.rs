@@ -1,14 +1,14 @@
 //! The C header, the page of rules and the Rust crate say the same: limits, numbers, and a sentence
 //! for each number. The numbers are those of the Rattle source.
 
-use table::{EDGES, GAME_EDGES, LOSS_WORDS, Refusal, SYNDROME_WORDS, TEXT, VERTICES};
+use table::{EDGES, GAME_EDGES, LOSS_WORDS, Refusal, SYNDROME_WORDS, TEXT, TRAP_EDGES, VERTICES};
 
 const HEADER: &str = include_str!("../../../include/surface_table.h");
 const RULES: &str = include_str!("../../../docs/RULES.md");
 const SOURCE: &str = include_str!("../../../crates/model/src/refusal.rt");
 
 /// Every refusal, in the order of the numbers, at place 7 where it has a place. None has number 5.
-const REFUSALS: [Refusal; 21] = [
+const REFUSALS: [Refusal; 22] = [
     Refusal::VertexCount,
     Refusal::EndCount,
     Refusal::BufferLength,
@@ -30,6 +30,7 @@ const REFUSALS: [Refusal; 21] = [
     Refusal::GameEdges,
     Refusal::PositionByte(7),
     Refusal::MoveCount,
+    Refusal::TrapEdges,
 ];
 
 /// The number that is not in use.
@@ -82,14 +83,18 @@ fn place_of(refusal: Refusal) -> &'static str {
 #[test]
 fn numbers_but_5() {
     let numbers: Vec<u8> = REFUSALS.iter().map(|refusal| refusal.number()).collect();
-    assert_eq!(numbers, (1..=22).filter(|&number| number != 5).collect::<Vec<u8>>());
+    assert_eq!(numbers, (1..=23).filter(|&number| number != 5).collect::<Vec<u8>>());
 }
 
 #[test]
 fn limits() {
-    for (name, limit) in
-        [("VERTICES", VERTICES), ("EDGES", EDGES), ("GAME_EDGES", GAME_EDGES), ("TEXT", TEXT)]
-    {
+    for (name, limit) in [
+        ("VERTICES", VERTICES),
+        ("EDGES", EDGES),
+        ("GAME_EDGES", GAME_EDGES),
+        ("TRAP_EDGES", TRAP_EDGES),
+        ("TEXT", TEXT),
+    ] {
         let header = between(&format!("#define SURFACE_{name} "), &[' ']);
         assert_eq!(header, Some(limit.to_string().as_str()), "{name}");
     }
@@ -148,9 +153,9 @@ fn number_that_is_not_in_use() {
 }
 
 /// The tests of each call, in order, as the page of rules must list them: 16 and 17 come after 8 and 9
-/// and before 10, 12 and 14, 19 in the place of 7 and 8, 20 to 22 after all of the board's own, and a side
+/// and before 10, 12 and 14, 19 in the place of 7 and 8, 20 to 23 after all of the board's own, and a side
 /// and rounds before the lengths.
-const TESTS: [(&str, &str); 16] = [
+const TESTS: [(&str, &str); 17] = [
     ("decode", "1 2 3 4 6 7 8 16 17 10"),
     ("decode_rounds", "1 2 3 4 6 7 8 16 17 10"),
     ("decode_packed", "1 2 3 4 6 19 16 17 10"),
@@ -167,6 +172,7 @@ const TESTS: [(&str, &str); 16] = [
     ("lit_total", "1 3 19"),
     ("list_lit", "1 3 19"),
     ("game", "1 2 3 4 6 16 20 21 22"),
+    ("trap", "1 2 3 4 6 8 16 23"),
 ];
 
 #[test]

@@ -5,9 +5,9 @@ use std::thread;
 use reference::generators::{Kind, opened, sheet};
 use reference::torus::torus;
 use reference::{PackedSheet, Random, Sheet};
-use table::GAME_EDGES;
+use table::{GAME_EDGES, TRAP_EDGES};
 use table_tests::packed::{Listing, Packing, Unpacking, decode_packed, lit_total};
-use table_tests::{agrees, game, library};
+use table_tests::{agrees, game, library, trap};
 
 const THREADS: usize = 4;
 
@@ -123,6 +123,14 @@ fn all_calls_at_once() {
             for Sheet { board, .. } in sheets {
                 let played = game::game(board, &vec![0; board.edges()]);
                 assert_eq!(played.is_ok(), board.edges() <= GAME_EDGES, "{played:?}");
+            }
+        });
+        scope.spawn(|| {
+            // Where there are nine edges or more, and not too many, a trap takes longer than all else.
+            let few = |edges: usize| edges <= 8 || edges > TRAP_EDGES;
+            for Sheet { board, loss, .. } in sheets.iter().filter(|sheet| few(sheet.loss.len())) {
+                let set = trap::trap(board, loss);
+                assert_eq!(set.is_ok(), board.edges() <= TRAP_EDGES, "{set:?}");
             }
         });
     });

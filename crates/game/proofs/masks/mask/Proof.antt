@@ -7,7 +7,7 @@ use lib.Dec.{eqb}
 use lib.ListN.{getD}
 use Rattle.model.proofs.Bits.{bit-bound}
 use Rattle.theory.proofs.PackedBits.{PackedFrom, packed-none, packed-more, packed-room, packed-whole}
-use Rattle.game.proofs.MaskLaws.{cast-bit}
+use Rattle.board.proofs.MaskBytes.{cast-bit}
 use Rattle.game.proofs.masks.mask.Statement.{statement}
 use Rattle.game.proofs.masks.mask.Tie as tie
 

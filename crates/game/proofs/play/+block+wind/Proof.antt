@@ -13,8 +13,8 @@ use Rattle.game.proofs.MaskLaws.{power-within}
 use Rattle.game.proofs.PlayLaws.{windKeeps, blockKeeps, held-inside, more-inside, wind-won, block-won, wind-out, block-out}
 use Rattle.game.proofs.PlayLaws.{wind-takes, wind-waits, block-takes, block-waits, wind-next, block-next}
 use Rattle.game.proofs.PlayLaws.{wind-judged, block-judged, wind-held, block-held}
-use Rattle.game.proofs.masks.alone.Reads as alone-reads
-use Rattle.game.proofs.masks.has.Reads as has-reads
+use Rattle.board.proofs.masks.alone.Reads as alone-reads
+use Rattle.board.proofs.masks.has.Reads as has-reads
 use Rattle.game.proofs.play.blocker_wins.Reads as blocker-wins-reads
 use Rattle.game.proofs.play.winder_wins.Reads as winder-wins-reads
 use Rattle.game.proofs.play.block.Reads as block

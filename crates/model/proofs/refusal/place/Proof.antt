@@ -98,6 +98,9 @@ cast-result-10 c = search needs
 enum-told-8 : tie.Need-enum-told-8
 enum-told-8 c = search needs
 
+enum-told-9 : tie.Need-enum-told-9
+enum-told-9 c = search needs
+
 returns : tie.Need-returns
 returns c = sym (ap placeOf (c .enum-told .given .1))
 
@@ -161,6 +164,9 @@ returns-20 c = sym (ap placeOf (c .before .before .refusal13 .given .1))
 returns-21 : tie.Need-returns-21
 returns-21 c = sym (ap placeOf (c .enum-told8 .given .1))
 
+returns-22 : tie.Need-returns-22
+returns-22 c = sym (ap placeOf (c .enum-told9 .given .1))
+
 pub place-spec : {M : Type 1} → statement M
 place-spec =
     tie.close
@@ -196,6 +202,7 @@ place-spec =
     enum-known-refusal-13
     cast-result-10
     enum-told-8
+    enum-told-9
     returns
     returns-2
     returns-3
@@ -216,4 +223,5 @@ place-spec =
     returns-18
     returns-19
     returns-20
-    returns-21)
+    returns-21
+    returns-22)

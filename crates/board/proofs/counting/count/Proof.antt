@@ -1,4 +1,4 @@
--- `game::counting::count` meets its contract. The loop's invariant: `total` is the number of edges before e with the byte. Assumes nothing.
+-- `board::counting::count` meets its contract. The loop's invariant: `total` is the number of places before i with the value. Assumes nothing.
 use Prim.Native.Nat.{ℕ, _-_, _≤_}
 use mathlib.Core.Path.{_≡_, ap, _∙_}
 use mathlib.Core.Logic.{⊎-elim}
@@ -12,18 +12,18 @@ use lib.Dec.{eqb}
 use Rattle.model.specs.Sums.{Set, countUpTo}
 use Rattle.model.proofs.SumLaws.{count-bound}
 use Rattle.model.proofs.CountLaws.{count-in, count-out}
-use Rattle.game.proofs.counting.count.Statement.{statement}
-use Rattle.game.proofs.counting.count.Tie as tie
+use Rattle.board.proofs.counting.count.Statement.{statement}
+use Rattle.board.proofs.counting.count.Tie as tie
 
--- the edges with the byte
+-- the places with the value
 abbrev valued : List ℕ → ℕ → Set
-valued position value e = eqb (getD position e 0) value
+valued bytes value i = eqb (getD bytes i 0) value
 
 abbrev Inv-loop : tie.InvT-loop
-Inv-loop position value total₀ e₀ total e = (e ≤ length position) × (total ≡ countUpTo e (valued position value))
+Inv-loop bytes value total₀ i₀ total i = (i ≤ length bytes) × (total ≡ countUpTo i (valued bytes value))
 
 abbrev μ-loop : tie.MeasureT-loop
-μ-loop position value total₀ e₀ total e = length position - e
+μ-loop bytes value total₀ i₀ total i = length bytes - i
 
 loop-holds : tie.Need-loop-holds Inv-loop μ-loop
 unfolding countUpTo
@@ -36,10 +36,10 @@ add-total : tie.Need-add-total Inv-loop μ-loop
 add-total c =
     let here = c .before .before .before in
     let a = here .before .args in
-    record { fits = omega (arith, here .loop .inv, count-bound (here .loop .e) (valued (now (a .position)) (a .value))) }
+    record { fits = omega (arith, here .loop .inv, count-bound (here .loop .i) (valued (now (a .bytes)) (a .value))) }
 
-add-e : tie.Need-add-e Inv-loop μ-loop
-add-e c = search needs
+add-i : tie.Need-add-i Inv-loop μ-loop
+add-i c = search needs
 
 loop-less : tie.Need-loop-less Inv-loop μ-loop
 loop-less c = search needs
@@ -47,13 +47,13 @@ loop-less c = search needs
 loop-again : tie.Need-loop-again Inv-loop μ-loop
 loop-again c =
     let here = c .before .before .before in
-    let e = here .loop .e in
+    let i = here .loop .i in
     let a = here .before .args in
-    let f = valued (now (a .position)) (a .value) in (
+    let f = valued (now (a .bytes)) (a .value) in (
       search needs,
       ⊎-elim
-          (λ w. omega (arith, w .1, here .loop .inv .1, count-in e f (eq-eqb _ _ (w .0 .taken))))
-          (λ w. omega (arith, w .1, here .loop .inv .1, count-out e f (ne-eqb _ _ (w .0 .left))))
+          (λ w. omega (arith, w .1, here .loop .inv .1, count-in i f (eq-eqb _ _ (w .0 .taken))))
+          (λ w. omega (arith, w .1, here .loop .inv .1, count-out i f (ne-eqb _ _ (w .0 .left))))
           (c .if1 .came),
     )
 
@@ -61,8 +61,8 @@ returns : tie.Need-returns Inv-loop μ-loop
 returns c =
     let at = c .before .loop in
     let a = c .before .before .args in
-    let all : at .e ≡ length (now (a .position)) = omega (arith, at .inv .0, c .loop-test .left) in
-    at .inv .1 ∙ ap (λ n. countUpTo n (valued (now (a .position)) (a .value))) all
+    let all : at .i ≡ length (now (a .bytes)) = omega (arith, at .inv .0, c .loop-test .left) in
+    at .inv .1 ∙ ap (λ n. countUpTo n (valued (now (a .bytes)) (a .value))) all
 
 pub count-spec : {M : Type 1} → statement M
 count-spec =
@@ -73,7 +73,7 @@ count-spec =
     loop-holds
     shared-slice-read-if1
     add-total
-    add-e
+    add-i
     loop-less
     loop-again
     returns)

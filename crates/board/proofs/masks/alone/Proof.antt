@@ -1,9 +1,9 @@
--- `game::masks::alone` meets its contract. Assumes nothing.
+-- `board::masks::alone` meets its contract. Assumes nothing.
 use native.Mathlib.Omega.{arith}
 use borrow.Author.Needs.{needs}
 use lib.Pow.{pow-lt}
-use Rattle.game.proofs.masks.alone.Statement.{statement}
-use Rattle.game.proofs.masks.alone.Tie as tie
+use Rattle.board.proofs.masks.alone.Statement.{statement}
+use Rattle.board.proofs.masks.alone.Tie as tie
 
 shl-result : tie.Need-shl-result
 shl-result c = search needs

@@ -1,0 +1,5 @@
+mod FlippedVerdicts
+mod SearchLaws
+mod SoundTraps
+mod TrapOutcome
+pub mod TrapTests

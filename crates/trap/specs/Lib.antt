@@ -1,0 +1,2 @@
+pub mod Settable
+pub mod Searching
