@@ -368,8 +368,8 @@ uint64_t surface_game(size_t vertices,
  * there is no trap both are 0.
  *
  * There is a trap exactly where some loop winds, which on a board with open vertices may run from one
- * of them to another, and the smallest has at most as many edges as the distance. With t lost edges on
- * the board, and s edges of the trap not lost, t + 2s is no smaller than the distance. */
+ * of them to another, and the smallest has at most half as many edges as the distance, rounded up. With
+ * t lost edges on the board, and s edges of the trap not lost, t + 2s is no smaller than the distance. */
 uint64_t surface_trap(size_t vertices,
                       const uint16_t *ends, size_t ends_count,
                       const uint8_t *marks, size_t marks_count,

@@ -284,9 +284,19 @@ static void longest_games(void)
     memset(position, 0, sizeof position);
 }
 
-/* Traps on as many edges as there may be, among as many vertices: on a ring, first with nothing lost, so that half of it is a trap, then with
- * every third edge lost; then on the ring without a mark, on which all sets are tried. Then with every other vertex open, and the mark again.
- * At last a loss byte above 1, and an edge too many. */
+/* The search for a trap, which must find so many edges; none is 0. Where these are fewer than those of the shortest winding loop, sets were
+ * decoded. */
+static void measure_trap_as(uint32_t fewest)
+{
+    measure(TRAP);
+    if (surface_refusal(returned) != SURFACE_NOT_REFUSED || surface_first(returned) != fewest)
+        abort();
+}
+
+/* Traps on as many edges as there may be, among as many vertices: on a ring, which winds and is the only loop, first with nothing lost, so
+ * that sets of half its edges are decoded until one is a trap, then with every third edge lost; then on the ring without a mark, on which
+ * nothing winds and no set is decoded. Then with every other vertex open, and the mark again: two edges from one of them to another wind. At
+ * last a loss byte above 1, and an edge too many. */
 static void largest_traps(void)
 {
     vertices = SURFACE_VERTICES;
@@ -299,16 +309,16 @@ static void largest_traps(void)
         marks[e] = 0;
     }
     marks[edges - 1] = 3;
-    measure(TRAP);
+    measure_trap_as((uint32_t)edges / 2);
     for (size_t e = 0; e < edges; e += 3)
         loss[e] = 1;
-    measure(TRAP);
+    measure_trap_as(6);
     marks[edges - 1] = 0;
-    measure(TRAP);
+    measure_trap_as(0);
     for (size_t v = 0; v < vertices; v += 2)
         open_bytes[v] = 1;
     marks[edges - 1] = 3;
-    measure(TRAP);
+    measure_trap_as(1);
     loss[edges - 1] = 2;
     measure(TRAP);
     loss[edges - 1] = 0;

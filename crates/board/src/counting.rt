@@ -1,4 +1,4 @@
-// How many bytes of a buffer have a value.
+// How many bytes of a buffer hold a given value.
 ghost use mathlib.Core.Path.{_≡_};
 ghost use lib.ListN.{length, getD};
 ghost use lib.Dec.{eqb};

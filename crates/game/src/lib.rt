@@ -22,7 +22,8 @@ ghost use Rattle.model.specs.GameOutcomes.{Plays, PlaysSoundly};
 ghost use Rattle.model.specs.Lent.{before, boardLent};
 ghost use Rattle.game.specs.Playable.{Playable};
 
-// The loops of the board are found once, for every set of its edges. Then the player to move begins.
+// The loops of the board are found once, for every set of its edges. Then the player to move begins. In a position 0 is the byte of a free
+// edge, 1 that of Winder's and 2 that of Blocker's.
 fn search(vertices: usize, ends: &[u16], marks: &[u8], opened: &[u8], position: &[u8]) -> Forced
     requires { ⌜ Playable (boardOf vertices (now ends) (now marks) (now opened)) (now position) ⌝ }
     ensures { λ r. ⌜ r ≡ forced (boardLent vertices ends marks opened) (before position) ⌝ }

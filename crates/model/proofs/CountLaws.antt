@@ -62,6 +62,12 @@ nth (suc n) f k h =
         none-left : bit (f n) ≡ 0 → ⊥
         none-left z = omega arith
 
+-- the first number apart
+pub count-first : (n : ℕ) (f : Set) → countUpTo (suc n) f ≡ bit (f 0) + countUpTo n (λ i. f (suc i))
+unfolding countUpTo
+count-first zero f = omega arith
+count-first (suc n) f = omega (arith, count-first n f)
+
 -- the first a numbers, then b more
 pub count-append : (a b : ℕ) (f : Set) → countUpTo (a + b) f ≡ countUpTo a f + countUpTo b (λ i. f (a + i))
 unfolding countUpTo

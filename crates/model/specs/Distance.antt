@@ -18,7 +18,7 @@ lesser (some a) (some b) = some (min a b)
 abbrev pub with : ℕ → Set → Set
 with e D i = eqb i e || D i
 
--- the fewest edges that meet the test P among the sets made of D and any edges below k
+-- the fewest edges of a set that meets the test P, among the sets made of D and any edges below k
 unfoldable pub fewestFrom : Board → (Set → Bool) → ℕ → Set → Option ℕ
 fewestFrom B P zero D = cond (P D) (some (size B D)) none
 fewestFrom B P (suc e) D = lesser (fewestFrom B P e D) (fewestFrom B P e (with e D))

@@ -1,6 +1,7 @@
 -- Document 01, "How far contracts go", 1: the outcome of decoding, verdict, distance, torus and planar board, that is, what the call
 -- answers and what every lent buffer holds when it is over, also where it refuses. That of rounds is in `RoundsOutcomes`, of faces in
--- `FacesOutcomes`, of stacks in `StackOutcomes`, of packed sheets in `WordOutcomes`, and of reading and writing in `TextOutcomes`.
+-- `FacesOutcomes`, of stacks in `StackOutcomes`, of packed sheets in `WordOutcomes`, of the game in `GameOutcomes`, of traps in
+-- `TrapOutcomes`, and of reading and writing in `TextOutcomes`.
 -- Assumes nothing.
 use Prim.Native.Nat.{ℕ, _*_}
 use mathlib.Core.Path.{_≡_}

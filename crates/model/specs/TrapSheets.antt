@@ -5,7 +5,7 @@ use mathlib.Core.Bool.{true, false}
 use mathlib.Core.List.{[], _∷_}
 use mathlib.Core.Option.{none, some}
 use Rattle.model.specs.declared.answers.Trap.the-variants.{Nothing}
-use Rattle.model.specs.declared.refusal.Refusal.the-variants.{LossByte, OpenByte, TrapEdges}
+use Rattle.model.specs.declared.refusal.Refusal.the-variants.{BufferLength, LossByte, OpenByte, TrapEdges}
 use Rattle.model.specs.Sums.{oddUpTo, countUpTo, someUpTo, firstUpTo, values, ones}
 use Rattle.model.specs.Board.{Board, boardOf, withoutOpen}
 use Rattle.model.specs.Syndrome.{oddEnd, syndrome}
@@ -56,11 +56,13 @@ pub record TrapSheets : Type 0 where
   pub planar-2 : fewestTrap (planar 2) (0 ∷ 0 ∷ 0 ∷ 0 ∷ 0 ∷ []) ≡ some 1
   -- where there is none, the set is all 0, whatever it was
   pub left-empty : Sets path (0 ∷ 0 ∷ 0 ∷ []) (1 ∷ 1 ∷ 1 ∷ []) Nothing (0 ∷ 0 ∷ 0 ∷ [])
-  -- 8 before 16 before 23
+  -- 16 edges pass, and 17 do not; 3 before 8 before 16 before 23
   pub sixteen : trapRefusal (petals 16 0) (values 16 (λ i. 0)) (values 16 (λ i. 9)) ≡ none
   pub seventeen : trapRefusal (petals 17 0) (values 17 (λ i. 0)) (values 17 (λ i. 9)) ≡ some TrapEdges
   pub open-first : trapRefusal (petals 17 2) (values 17 (λ i. 0)) (values 17 (λ i. 9)) ≡ some (OpenByte (record { 0 = 0 }))
   pub loss-first : trapRefusal (petals 17 2) (values 17 (λ i. 2)) (values 17 (λ i. 9)) ≡ some (LossByte (record { 0 = 0 }))
+  pub set-short : trapRefusal (petals 17 2) (values 17 (λ i. 2)) (values 16 (λ i. 9)) ≡ some BufferLength
+  pub loss-short : trapRefusal (petals 17 2) (values 16 (λ i. 2)) (values 17 (λ i. 9)) ≡ some BufferLength
 
 pub trap-sheets : TrapSheets
 unfolding oddUpTo countUpTo someUpTo firstUpTo values oddEnd syndrome closed crossings winds labelsUpTo labels start clusters oddlyLit holdsOpen odd exposed boundary choiceUpTo choice swell weighted growFrom grown takenUpTo forest oddSide spanned oddEnds correction grownBy peeled fewestFrom fewestWhere traps fewestTrap torusEnds torusMarks torus planarEnds planarMarks planarOpens planar boardRules trapRules trapRefusal
@@ -85,4 +87,6 @@ trap-sheets =
       seventeen = refl;
       open-first = refl;
       loss-first = refl;
+      set-short = refl;
+      loss-short = refl;
     }

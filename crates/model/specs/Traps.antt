@@ -15,7 +15,8 @@ use Rattle.model.specs.Distance.{fewestWhere}
 abbrev pub flippedSheet : Board → List ℕ → Set → Sheet
 flippedSheet B loss E = sheetOf B (bytes (B .vertices) (syndrome B E)) loss
 
--- E is a trap: the correction with which the table answers its syndrome winds together with E
+-- E is a trap: the correction with which the table answers its syndrome winds together with E. There always is one: E has the syndrome, so
+-- that number 10 never arises.
 unfoldable pub traps : Board → List ℕ → Set → Bool
 traps B loss E = winds B (together E (corrected (flippedSheet B loss E)))
 

@@ -1,7 +1,7 @@
 // The static library: the calls of the table under plain C names, each answering one packed number. Of each, `number` says which number,
 // and `outcome` that what a caller takes from it is the call's answer, with the final contents of every buffer; of decoding, in rounds too,
-// of the verdict, with faces too, of the game, of the stack and of all calls on packed sheets, `sound` says what may be relied on, of the
-// same answer. The words of a packed syndrome are lent as `lit`, those of packed losses as `lost`.
+// of the verdict, with faces too, of the game, of traps, of the stack and of all calls on packed sheets, `sound` says what may be relied
+// on, of the same answer. The words of a packed syndrome are lent as `lit`, those of packed losses as `lost`.
 mod packing;
 mod trapping;
 

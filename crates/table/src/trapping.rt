@@ -1,4 +1,4 @@
-// The export of the search for a trap, apart from the others, which fill `lib.rt`.
+// The search for a trap under its plain C name; what `number`, `outcome` and `sound` say is told at the head of `lib.rt`.
 use crate::packing::pack_trap;
 ghost use mathlib.Core.Path.{_≡_};
 ghost use Rattle.model.specs.Lent.{before, after, boardLent};

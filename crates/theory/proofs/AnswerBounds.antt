@@ -7,17 +7,16 @@ use mathlib.Core.Option.{some}
 use native.Mathlib.Omega.{arith}
 use Rattle.model.specs.Sums.{Set, bit, ones, oddUpTo}
 use Rattle.model.specs.Board.{Board, Sheet, edges}
-use Rattle.model.specs.Winding.{crossesA, crossesB, crossings, size}
+use Rattle.model.specs.Winding.{crossesA, crossesB, crossings, winds, size}
 use Rattle.model.specs.Growth.{Policy}
 use Rattle.model.specs.Decoding.{grownBy}
 use Rattle.model.specs.Verdict.{differs}
-use Rattle.model.specs.Distance.{fewest}
-use Rattle.model.specs.Traps.{fewestTrap}
+use Rattle.model.specs.Distance.{fewestWhere, fewest}
+use Rattle.model.specs.Traps.{traps, fewestTrap}
 use Rattle.model.proofs.Bits.{bit-bound}
 use Rattle.model.proofs.SumLaws.{count-bound, first-found}
 use Rattle.theory.proofs.GrowthRun.{grown-ends}
-use Rattle.theory.proofs.Distances.{fewest-least}
-use Rattle.theory.proofs.Traps.{trap-least}
+use Rattle.theory.proofs.FewestSets.{where-reached}
 
 -- Decoding, by weighted growth or in rounds
 
@@ -43,16 +42,17 @@ crossings-bound B D =
     two-bits : (a b : Bool) → bit a + 2 * bit b ≤ 3
     two-bits a b = omega (arith, bit-bound a, bit-bound b)
 
--- The distance
+-- The distance and the fewest edges of a trap
+
+where-bound : (B : Board) (P : Set → Bool) (d : ℕ) → fewestWhere B P ≡ some d → d ≤ edges B
+where-bound B P d p =
+    let member = where-reached B P d p in
+    omega (arith, size-bound B (member .set), member .count)
 
 pub fewest-bound : (B : Board) (d : ℕ) → fewest B ≡ some d → d ≤ edges B
-fewest-bound B d p =
-    let loop = fewest-least B d p .reached in
-    omega (arith, size-bound B (loop .set), loop .count)
-
--- A trap
+unfolding fewest
+fewest-bound B d p = where-bound B (winds B) d p
 
 pub trap-bound : (B : Board) (loss : List ℕ) (k : ℕ) → fewestTrap B loss ≡ some k → k ≤ edges B
-trap-bound B loss k p =
-    let trap = trap-least B loss k p .reached in
-    omega (arith, size-bound B (trap .set), trap .count)
+unfolding fewestTrap
+trap-bound B loss k p = where-bound B (traps B loss) k p

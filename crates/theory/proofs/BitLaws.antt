@@ -1,4 +1,4 @@
--- The bits of a number: its lowest bit and the others, numbers made of bits, and bits past a length. Assumes nothing.
+-- The bits of a number: its lowest bit and the others, how many are set, numbers made of bits, and bits past a length. Assumes nothing.
 use Prim.Native.Nat.{ℕ, zero, suc, _+_, _*_, _/_, _%_, _^_, _≤_, _<_}
 use mathlib.Core.Path.{_≡_, refl, sym, ap, ap₂, _∙_, subst}
 use mathlib.Core.Bool.{false}
@@ -10,6 +10,7 @@ use Rattle.model.specs.Sums.{Set, bit, countUpTo}
 use Rattle.model.specs.Words.{bitOf, numberWith}
 use Rattle.model.proofs.Bits.{eqb-bit, bit-bound, byte-bit}
 use Rattle.model.proofs.SumLaws.{count-cong, count-bound}
+use Rattle.model.proofs.CountLaws.{count-first}
 
 -- One number
 
@@ -38,12 +39,6 @@ half-below x d h = half (2 ^ d) (subst (λ b. x < b) (pow-succ' 2 d) h)
   where
     half : (b : ℕ) → x < 2 * b → x / 2 < b
     half b l = omega arith
-
--- the first member apart
-count-first : (d : ℕ) (f : Set) → countUpTo (suc d) f ≡ bit (f 0) + countUpTo d (λ k. f (suc k))
-unfolding countUpTo
-count-first zero f = omega arith
-count-first (suc d) f = omega (arith, count-first d f)
 
 -- count_ones of a number of few bits
 pub ones-counted : (d x : ℕ) → x < 2 ^ d → ones x ≡ countUpTo d (bitOf x)

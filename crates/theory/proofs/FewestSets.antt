@@ -95,6 +95,10 @@ from-reached B P zero D = go (P D) refl
 from-reached B P (suc e) D =
     lesser-reached B P (fewestFrom B P e D) (fewestFrom B P e (with e D)) (from-reached B P e D) (from-reached B P e (with e D))
 
+pub where-reached : (B : Board) (P : Set → Bool) (d : ℕ) → fewestWhere B P ≡ some d → Member B P d
+unfolding fewestWhere
+where-reached B P d p = subst (Reached B P) p (from-reached B P (edges B) (λ i. false))
+
 module _ (B : Board) (P : Set → Bool) (local : OfEdges B P) where
   from-bounds : (k : ℕ) (D E : Set) → Made B k D E → P E ≡ true → AtMost (fewestFrom B P k D) (size B E)
   unfolding fewestFrom
@@ -114,10 +118,9 @@ module _ (B : Board) (P : Set → Bool) (local : OfEdges B P) where
 
   -- it is reached, and no set that meets the test is smaller
   pub where-least : (d : ℕ) → fewestWhere B P ≡ some d → LeastWhere B P d
-  unfolding fewestWhere
   where-least d p =
       record {
-        reached = subst (Reached B P) p (from-reached B P (edges B) (λ i. false));
+        reached = where-reached B P d p;
         least = λ D w. subst (λ o. AtMost o (size B D)) p (where-at-most D w);
       }
 

@@ -41,6 +41,7 @@ pub mod VerdictGround
 pub mod Spreading
 pub mod NotWinding
 pub mod Traps
+pub mod TrapHalves
 pub mod RoundTurns
 pub mod RoundSpread
 pub mod SoundRounds

@@ -1,6 +1,6 @@
 -- Document 01, "line from 1": a text that is refused has a first malformed line, and the refusal's place is that line's number, one more
 -- than the newlines before it; a text with such a line is refused there. Assumes nothing.
-use Prim.Native.Nat.{ℕ, zero, suc, _+_}
+use Prim.Native.Nat.{ℕ, suc, _+_}
 use mathlib.Core.Path.{_≡_, refl, sym, ap, _∙_}
 use mathlib.Core.Logic.{_≢_, _⊎_, inl, inr, ⊎-map}
 use mathlib.Core.Bool.{Bool, true, false}
@@ -14,11 +14,12 @@ use lib.Seq.{length-take-le, take-append-seam, drop-append-seam, getD-append-sea
 use lib.Dec.{eqb}
 use Rattle.model.specs.declared.refusal.Refusal.{Refusal}
 use Rattle.model.specs.declared.refusal.Refusal.the-variants.{MalformedLine}
-use Rattle.model.specs.Sums.{Set, bit, countUpTo}
+use Rattle.model.specs.Sums.{bit, countUpTo}
 use Rattle.model.specs.Board.{Sheet}
 use Rattle.model.specs.Refusals.{placeOf}
 use Rattle.model.specs.Text.{newline, Line, V-line, printed, partedBy, lineFrom, Read, complete, refused, orMalformed, firstLine, begun, step, readOn, readLines, readText}
 use Rattle.model.specs.LineNumbers.{newlinesBefore, lineNumber, LineBegins, firstLineOf, IsText, FirstMalformed, FirstMalformedNumber}
+use Rattle.model.proofs.CountLaws.{count-first}
 use Rattle.theory.proofs.DecimalFields.{Without, nowhere, besides, parted-one, parted-first, NotEmpty, not-empty, parted-not-empty}
 use Rattle.theory.proofs.TextLines.{line-without}
 use Rattle.theory.proofs.TextReading.{refused-complete, Spells, spelt-on, reads-spelt}
@@ -55,15 +56,9 @@ first-full (besides {b = b} h w) cs = rw (ne-eqb b newline h, first-full w cs)
 
 -- Newlines
 
--- the first number apart
-count-front : (n : ℕ) (f : Set) → countUpTo (suc n) f ≡ bit (f 0) + countUpTo n (λ i. f (suc i))
-unfolding countUpTo
-count-front zero f = omega arith
-count-front (suc n) f = omega (arith, count-front n f)
-
 newlines-front : (b : ℕ) (bs : List ℕ) (n : ℕ) → newlinesBefore (b ∷ bs) (suc n) ≡ bit (eqb b newline) + newlinesBefore bs n
 unfolding newlinesBefore
-newlines-front b bs n = count-front n (λ i. eqb (getD (b ∷ bs) i 0) newline)
+newlines-front b bs n = count-first n (λ i. eqb (getD (b ∷ bs) i 0) newline)
 
 -- a line with its newline holds one newline
 line-newline : {bs : List ℕ} → Without newline bs → (cs rest : List ℕ)

@@ -67,10 +67,10 @@ module _ (B : Board) (loss : List ℕ) where
       ap (λ l. winds B (together D (C l))) lit
       ∙ winds-cong B _ _ (λ e h. ap (λ b. b ⊕ C (bytes (B .vertices) (syndrome B E)) e) (same e h))
 
-  -- a trap and the correction together are a loop
-  pub trap-loop : (E : Set) → traps B loss E ≡ true → fewest B ≡ none → ⊥
+  -- a trap and the correction together are a loop, so that where no loop winds no set is a trap
+  pub loopless-untrapped : fewest B ≡ none → (E : Set) → traps B loss E ≡ false
   unfolding traps
-  trap-loop E p out = false≢true (sym (fewest-none B out (together E (corrected (flippedSheet B loss E)))) ∙ p)
+  loopless-untrapped out E = fewest-none B out (together E (corrected (flippedSheet B loss E)))
 
   module _ (r : Inside B) where
     -- t + 2s is no smaller than the distance
@@ -101,11 +101,8 @@ module _ (B : Board) (loss : List ℕ) where
       winds-cong B _ D (λ e h. ap (λ b. D e ⊕ b) (empty e) ∙ xor-false (D e)) ∙ w
 
   -- so there is a trap exactly where a loop winds
-  pub no-trap-loop : fewest B ≡ none → (E : Set) → traps B loss E ≡ false
-  no-trap-loop out E = not-true-false (traps B loss E) (λ p. trap-loop E p out)
-
-  pub no-loop-trap : ((E : Set) → traps B loss E ≡ false) → fewest B ≡ none
-  no-loop-trap out = none-fewest B (λ D. not-true-false (winds B D) (λ w. false≢true (sym (out D) ∙ loop-traps D w)))
+  pub untrapped-loopless : ((E : Set) → traps B loss E ≡ false) → fewest B ≡ none
+  untrapped-loopless out = none-fewest B (λ D. not-true-false (winds B D) (λ w. false≢true (sym (out D) ∙ loop-traps D w)))
 
   -- The fewest edges of a trap
 
@@ -124,9 +121,3 @@ module _ (B : Board) (loss : List ℕ) where
   pub none-trap : ((E : Set) → traps B loss E ≡ false) → fewestTrap B loss ≡ none
   unfolding fewestTrap
   none-trap out = none-where B (traps B loss) traps-cong out
-
-  -- it is at most the distance
-  pub trap-at-most : (k d : ℕ) → fewestTrap B loss ≡ some k → fewest B ≡ some d → k ≤ d
-  trap-at-most k d p q =
-      let loop = fewest-least B d q .reached in
-      omega (arith, trap-least k p .least (loop .set) (loop-traps (loop .set) (loop .holds)), loop .count)

@@ -30,7 +30,7 @@ module _ (B : Board) (loss : List ℕ) (s : Settable B loss) (flipped : List ℕ
   abbrev crossed : ℕ
   crossed = crossings B (together (ones flipped) (corrected X))
 
-  pub flipped-verdict : verdictAnswer X flipped ≡ compared crossed
+  flipped-verdict : verdictAnswer X flipped ≡ compared crossed
   unfolding judged
   flipped-verdict =
       passed-verdict X flipped (passes-verdict X flipped (record { sheet = flipped-valid B loss (ones flipped) (s .board) (s .losses); bytes = valid }))

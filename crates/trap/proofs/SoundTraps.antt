@@ -1,9 +1,10 @@
 -- What an examiner may rely on follows from the outcome of the search for a trap. Assumes nothing.
 use Prim.Native.Nat.{ℕ, _<_}
 use mathlib.Core.Path.{_≡_, refl, sym, ap, subst, _∙_}
-use mathlib.Core.Bool.{true}
+use mathlib.Core.Bool.{true, false≢true}
 use mathlib.Core.List.{List}
 use mathlib.Core.Option.{Option, none, some}
+use lib.ListN.{length}
 use Rattle.model.specs.declared.refusal.Refusal.{Refusal}
 use Rattle.model.specs.declared.answers.Decoded.{Decoded}
 use Rattle.model.specs.declared.answers.Decoded.the-variants.{Key}
@@ -15,15 +16,17 @@ use Rattle.model.specs.Winding.{winds, together, size}
 use Rattle.model.specs.Decoding.{growths, corrected}
 use Rattle.model.specs.Distance.{fewest}
 use Rattle.model.specs.Traps.{flippedSheet, traps, fewestTrap}
-use Rattle.model.specs.Refusals.{decodeRefusal, trapRefusal}
+use Rattle.model.specs.Refusals.{trapRefusal}
 use Rattle.model.specs.Outcomes.{keyOr, Decodes}
-use Rattle.model.specs.TrapOutcomes.{trapOf, trapAnswer, ShowsTrap, Sets, SetsTrap, Misled, Heavy, TrapsSoundly}
+use Rattle.model.specs.TrapOutcomes.{trapOf, trapAnswer, ShowsTrap, Sets, SetsTrap, Misled, Weighed, TrapsSoundly}
 use Rattle.model.proofs.Contradiction.{zero-one}
 use Rattle.model.proofs.SumLaws.{count-cong}
 use Rattle.model.proofs.ListLaws.{ones-bytes, bytes-valid}
 use Rattle.theory.proofs.CrossedLines.{winds-cong}
 use Rattle.theory.proofs.Decodings.{passed-answer, key-answer}
-use Rattle.theory.proofs.Traps.{flipped-even, traps-cong, trap-loop, trap-heavy, trap-least, trap-none, none-trap, trap-at-most, no-trap-loop, no-loop-trap}
+use Rattle.theory.proofs.Traps.{flipped-valid, flipped-even, traps-cong, trap-heavy, trap-least, trap-none, none-trap, loopless-untrapped, untrapped-loopless}
+use Rattle.theory.proofs.TrapHalves.{trap-half}
+use Rattle.board.proofs.Calls.{passes-decode}
 use Rattle.trap.specs.Settable.{Settable}
 use Rattle.trap.proofs.FlippedVerdicts.{trap-verdict}
 
@@ -47,9 +50,11 @@ module _ (B : Board) (loss : List ℕ) (s : Settable B loss) (l : List ℕ) (tra
   abbrev X : Sheet
   X = flippedSheet B loss (ones l)
 
-  key-given : (support correction : List ℕ) (q : Decoded) (support′ correction′ : List ℕ) → decodeRefusal X support correction ≡ none
+  key-given : (support correction : List ℕ) (q : Decoded) (support′ correction′ : List ℕ) → length support ≡ edges B → length correction ≡ edges B
       → Decodes X support correction q support′ correction′ → q ≡ Key (growths X) (size B (corrected X))
-  key-given support correction q support′ correction′ passed d =
+  key-given support correction q support′ correction′ long also d =
+      let sheet = flipped-valid B loss (ones l) (s .board) (s .losses) in
+      let passed = passes-decode X support correction (record { sheet = sheet; support-long = long; correction-long = also }) in
       d .result ∙ passed-answer X support correction passed ∙ key-answer X (flipped-even B loss (ones l) (s .board .inside))
 
   key-winds : (correction q′ : List ℕ) (q : Decoded) → q ≡ Key (growths X) (size B (corrected X))
@@ -64,23 +69,23 @@ module _ (B : Board) (loss : List ℕ) (s : Settable B loss) (l : List ℕ) (tra
   misled : ValidBytes (edges B) l → Misled B loss l
   misled valid =
       record {
-        key = λ support correction q support′ correction′ passed d.
-            let is = key-given support correction q support′ correction′ passed d in
+        key = λ support correction q support′ correction′ long also d.
+            let is = key-given support correction q support′ correction′ long also d in
             (is, key-winds correction correction′ q is (d .correction-bytes));
         verdict = trap-verdict B loss s l valid trapped;
       }
 
-  heavy-trap : (k : ℕ) → fewestTrap B loss ≡ some k → Heavy B (ones loss) (ones l) k
-  heavy-trap k least = go (fewest B) refl
+  weighed-trap : (k : ℕ) → fewestTrap B loss ≡ some k → Weighed B (ones loss) (ones l) k
+  weighed-trap k least = go (fewest B) refl
     where
-      go : (o : Option ℕ) → fewest B ≡ o → Heavy B (ones loss) (ones l) k
-      go none p = absurd (trap-loop B loss (ones l) trapped p)
+      go : (o : Option ℕ) → fewest B ≡ o → Weighed B (ones loss) (ones l) k
+      go none p = absurd (false≢true (sym (loopless-untrapped B loss p (ones l)) ∙ trapped))
       go (some d) p =
           record {
             distance = d;
             is-distance = p;
             no-smaller = trap-heavy B loss (s .board .inside) (ones l) d trapped p;
-            at-most = trap-at-most B loss k d least p;
+            half = trap-half B (s .board .inside) loss k d least p;
           }
 
 -- The answer, where nothing that is lent is refused
@@ -112,7 +117,7 @@ module _ (B : Board) (loss set : List ℕ) (r : Trap) (set′ : List ℕ) (w : S
         edges-shown = λ k p. zero-one (cc);
         misleads = λ k p. zero-one (cc);
         smallest = λ k p. zero-one (cc);
-        heavy = λ k p. zero-one (cc);
+        weighed = λ k p. zero-one (cc);
         none-exactly = λ p. zero-one (cc);
         no-loop = λ p. zero-one (cc);
       }
@@ -123,9 +128,9 @@ module _ (B : Board) (loss set : List ℕ) (r : Trap) (set′ : List ℕ) (w : S
         edges-shown = λ k p. shown-size B loss k set′ (shown k p);
         misleads = λ k p. misled B loss s set′ (shown-traps B loss k set′ (shown k p)) (shown-valid B loss k set′ (shown k p));
         smallest = λ k p. trap-least B loss k (given k p) .least;
-        heavy = λ k p. heavy-trap B loss s set′ (shown-traps B loss k set′ (shown k p)) k (given k p);
+        weighed = λ k p. weighed-trap B loss s set′ (shown-traps B loss k set′ (shown k p)) k (given k p);
         none-exactly = λ q. (λ p. trap-none B loss (nothing p), λ out. none-answer (none-trap B loss out));
-        no-loop = λ q. (λ p. no-loop-trap B loss (trap-none B loss (nothing p)), λ out. none-answer (none-trap B loss (no-trap-loop B loss out)));
+        no-loop = λ q. (λ p. untrapped-loopless B loss (trap-none B loss (nothing p)), λ out. none-answer (none-trap B loss (loopless-untrapped B loss out)));
       }
     where
       shown : (k : ℕ) → r ≡ Fewest k → ShowsTrap B loss k set′

@@ -14,7 +14,7 @@ use Rattle.model.specs.Refusals.{distanceRefusal, trapRefusal}
 use Rattle.model.specs.Outcomes.{distanceOf, distanceAnswer, Shows, Measures}
 use Rattle.model.specs.TrapOutcomes.{trapOf, trapAnswer, SetsTrap}
 use Rattle.model.proofs.Contradiction.{zero-one}
-use Rattle.theory.proofs.Traps.{no-trap-loop, none-trap}
+use Rattle.theory.proofs.Traps.{loopless-untrapped, none-trap}
 use Rattle.trap.specs.Searching.{ShowsShortest, ShowsSmallest}
 use Rattle.trap.proofs.SoundTraps.{passed-trap}
 
@@ -35,7 +35,7 @@ module _ (B : Board) (loss set : List ℕ) where
         go : (o : Option ℕ) → fewest B ≡ o → SetsTrap B loss set Nothing old
         go none p =
             record {
-              result = sym (passed-trap B loss set passed ∙ ap trapOf (none-trap B loss (no-trap-loop B loss p)));
+              result = sym (passed-trap B loss set passed ∙ ap trapOf (none-trap B loss (loopless-untrapped B loss p)));
               shown = subst (λ x. Shows B set x old) is (m .loop);
             }
         go (some d) p = let q : distance.Nothing ≡ distance.Fewest d = sym is ∙ measured ∙ ap distanceOf p in zero-one (cc)

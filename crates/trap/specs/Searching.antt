@@ -24,7 +24,8 @@ setFound Nowhere = none
 abbrev pub trapOfSize : Board → List ℕ → ℕ → Set
 trapOfSize B loss k x = eqb (countUpTo (edges B) (bitOf x)) k && traps B loss (bitOf x)
 
--- with t lost edges no set of fewer than k edges has t + 2s at the distance d; k is at most d
+-- a size s below k is too small for a trap where t edges are lost and the distance is d: t + 2s is below d, and the edges of a set that are
+-- not lost are no more than all of them; k is at most d
 pub record LeastSize (d t k : ℕ) : Type 0 where
   pub at-most : k ≤ d
   pub light : (s : ℕ) → s < k → t + 2 * s < d

@@ -29,6 +29,7 @@ pub fn trap(
     if let Check::Failed(refusal) = check_trap(vertices, ends, marks, opened, loss, set) {
         return Trap::Refused(refusal);
     }
+    // What passed the tests is not refused by the distance.
     let measured = distance(vertices, ends, marks, opened, set);
     match measured {
         Distance::Fewest(fewest) => {

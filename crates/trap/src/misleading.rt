@@ -15,7 +15,7 @@ ghost use Rattle.model.specs.Traps.{traps};
 ghost use Rattle.model.specs.Words.{bitOf};
 ghost use Rattle.trap.specs.Settable.{Settable};
 
-// Of a set with a byte for each edge.
+// Says whether a set is a trap, by its bytes, one for each edge.
 fn misleads(
     vertices: usize,
     ends: &[u16],
@@ -48,7 +48,7 @@ fn misleads(
     is_wound(verdict)
 }
 
-// Of a set as a mask.
+// The same of the set of a mask.
 pub(crate) fn is_trap(
     vertices: usize,
     ends: &[u16],

@@ -1,4 +1,5 @@
-// Where the syndrome of a handed-in set differs from the one put, kept as one byte for each vertex.
+// Where the syndrome of a handed-in set differs from the one put, kept as one byte for each vertex. Where none is put, this is the syndrome
+// of the set.
 use model::ends::first_end;
 use model::ends::second_end;
 use model::limits::VERTICES;

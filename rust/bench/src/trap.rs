@@ -1,5 +1,5 @@
-//! The last table: setting a trap on boards of sixteen edges. It takes longest where all sets must be
-//! tried, and where the key of each takes long.
+//! The last table: setting a trap on boards of sixteen edges. It takes longest where the sets of several
+//! sizes must be tried, and where the key of each takes long: on long rings, a few edges lost elsewhere.
 
 use std::hint::black_box;
 
@@ -19,9 +19,19 @@ const BOARDS: usize = 50;
 pub fn table() {
     println!("trap, {TRAP_LIMIT} edges, milliseconds for a call, best of {RUNS} runs");
     println!("                         board   edges      time");
+    let row = |name: &str, fewest: Option<usize>, time: f64| {
+        println!("{name:>30} {:>7} {time:>9.2}", fewest.unwrap_or(0));
+    };
     for (name, sheet) in sheets() {
         let (fewest, time) = measured(&sheet);
-        println!("{name:>30} {fewest:>7} {time:>9.2}");
+        row(name, fewest, time);
+    }
+    for lost in 1..=3 {
+        let ring = ring(lost);
+        let (fewest, few_vertices) = measured(&ring);
+        let name = format!("ring of {}, {lost} lost elsewhere", TRAP_LIMIT - lost);
+        row(&name, fewest, few_vertices);
+        row("the same, 1,024 vertices", fewest, time(&wide(&ring), fewest));
     }
     let times: Vec<f64> = random_sheets().iter().map(|sheet| measured(sheet).1).collect();
     let mean = times.iter().sum::<f64>() / BOARDS as f64;
@@ -30,49 +40,57 @@ pub fn table() {
     println!("{:>38} {slowest:>9.2}", format!("{BOARDS} at random, slowest"));
 }
 
-/// The fewest edges of a trap, 0 where there is none, and the time. What is said is compared before it is
+/// The fewest edges of a trap by the plain search, for boards of few vertices, on which it is quick; and
+/// the time.
+fn measured(sheet: &Sheet) -> (Option<usize>, f64) {
+    let fewest = trap_into(&sheet.board, &sheet.loss, TRAP_LIMIT).expect("no refusal");
+    (fewest, time(sheet, fewest))
+}
+
+/// The time in milliseconds. That so many edges are said, and a trap is shown, is looked at before it is
 /// taken.
-fn measured(sheet: &Sheet) -> (usize, f64) {
+fn time(sheet: &Sheet, fewest: Option<usize>) -> f64 {
     let (board, loss) = (lent(sheet).board, &sheet.loss);
     let mut set = [0; TRAP_LIMIT];
-    let said = table::trap(board, loss, &mut set).ok();
-    assert_eq!(said, trap_into(&sheet.board, loss, TRAP_LIMIT).ok(), "{sheet:?}");
-    let fewest = said.flatten().unwrap_or(0);
-    assert_eq!(fewest, size(&set), "{sheet:?}");
-    assert!(fewest == 0 || is_trap(&sheet.board, loss, &set), "{sheet:?}");
+    assert_eq!(table::trap(board, loss, &mut set), Ok(fewest), "{sheet:?}");
+    assert_eq!(size(&set), fewest.unwrap_or(0), "{sheet:?}");
+    assert_eq!(is_trap(&sheet.board, loss, &set), fewest.is_some(), "{sheet:?}");
     let microseconds = best(1, || {
         let answer = table::trap(board, loss, &mut set);
         assert!(black_box(answer).is_ok());
     });
-    (fewest, microseconds / 1000.0)
+    microseconds / 1000.0
 }
 
-/// Boards that somebody drew.
+/// Boards with nothing lost. On the path no loop winds, so that no set is tried.
 fn sheets() -> Vec<(&'static str, Sheet)> {
-    let nothing_lost = |board: Board| Sheet::new(board, &[], &[]);
-    let all_lost = |board: Board| Sheet { loss: vec![1; TRAP_LIMIT], ..nothing_lost(board) };
-    let mut ring = long_ring(TRAP_LIMIT);
-    ring.marks[TRAP_LIMIT - 1] = 1;
     let side_by_side: Vec<_> = (0..16).map(|edge| (0, 1, u8::from(edge == 15))).collect();
-    let anywhere = crowd(&mut Random::new(SEED), 32, TRAP_LIMIT);
-    let unmarked = |board: Board| Board { marks: vec![0; TRAP_LIMIT], ..board };
     vec![
-        ("side by side", nothing_lost(Board::new(2, &side_by_side))),
-        ("ring", nothing_lost(ring.clone())),
-        ("ring, all lost", all_lost(ring.clone())),
-        ("ring, 1,024 vertices", nothing_lost(wide(ring.clone()))),
-        ("ring, no mark", nothing_lost(unmarked(ring))),
-        ("path, no mark", nothing_lost(path(17))),
-        ("path, no mark, all lost", all_lost(path(17))),
-        ("anywhere, no mark", nothing_lost(unmarked(anywhere))),
-        ("path, no mark, 1,024 vertices", nothing_lost(wide(path(17)))),
+        ("path, no mark", Sheet::new(path(17), &[], &[])),
+        ("side by side", Sheet::new(Board::new(2, &side_by_side), &[], &[])),
+        ("ring of 16", ring(0)),
     ]
 }
 
-/// The same board with its vertices far apart among as many as there may be.
-fn wide(board: Board) -> Board {
-    let ends = board.ends.iter().map(|&end| 60 * end).collect();
-    Board { vertices: 1024, ends, open: vec![0; 1024], ..board }
+/// So many lost loop edges without a mark, at a vertex by itself, and then the edges of a ring, of which
+/// the last has a mark. A smallest trap is half of the ring, rounded up; where some are lost the search
+/// begins at fewer edges, as all lost ones count.
+fn ring(lost: usize) -> Sheet {
+    let around = TRAP_LIMIT - lost;
+    let mut ring = long_ring(around);
+    ring.marks[around - 1] = 1;
+    let ends = [vec![around as u16; 2 * lost], ring.ends].concat();
+    let marks = [vec![0; lost], ring.marks].concat();
+    let board = Board { vertices: around + 1, ends, marks, open: vec![0; around + 1] };
+    Sheet::new(board, &[], &(0..lost).collect::<Vec<usize>>())
+}
+
+/// The same ring with its vertices far apart among as many as there may be.
+fn wide(sheet: &Sheet) -> Sheet {
+    let ends = sheet.board.ends.iter().map(|&end| 60 * end).collect();
+    let marks = sheet.board.marks.clone();
+    let board = Board { vertices: 1024, ends, marks, open: vec![0; 1024] };
+    Sheet { loss: sheet.loss.clone(), ..Sheet::new(board, &[], &[]) }
 }
 
 /// Boards with edges anywhere, some of them loop edges, and cycles with chords; some with open vertices.

@@ -67,6 +67,11 @@ pub fn verdict_on(board: &Board, loss: &[u8], set: &[u8]) -> table::Verdict {
     }
 }
 
+/// Whether that verdict is wound.
+pub fn is_wound(board: &Board, loss: &[u8], set: &[u8]) -> bool {
+    matches!(verdict_on(board, loss, set), table::Verdict::Wound(_))
+}
+
 /// The fewest edges of a trap that is not refused, with the trap that was written.
 pub fn trap(board: &Board, loss: &[u8]) -> (Option<usize>, Vec<u8>) {
     let mut set = vec![9; board.edges()];

@@ -1,5 +1,5 @@
-//! Traps: one call, compared with the plain one in all that can be seen of it, and the boards and losses
-//! to set them on.
+//! Traps: one call, compared with the plain one in all that can be seen of it, and held to the library's
+//! own verdict; and the boards and losses to set them on.
 
 use reference::Random;
 use reference::board::{Board, size};
@@ -11,6 +11,7 @@ use crate::agrees::is_refusal;
 use crate::few_edges::drawn_board;
 use crate::guarded::Guarded;
 use crate::lent::{BYTE_GUARD, LentBoard, noise};
+use crate::library::is_wound;
 
 /// The trap that is written into a buffer of this length, or none. Which of the smallest it is, is left
 /// open.
@@ -30,6 +31,7 @@ pub fn trap_with(board: &Board, loss: &[u8], set: usize) -> Result<Option<Vec<u8
             assert!(after.iter().all(|&byte| byte <= 1), "{after:?}: {}", case());
             assert_eq!(size(&after), fewest, "{after:?}: {}", case());
             assert!(is_trap(board, loss, &after), "{after:?}: {}", case());
+            assert!(is_wound(board, loss, &after), "another verdict on {after:?}: {}", case());
             Ok(Some(after))
         }
         (Ok(None), Ok(None)) => {

@@ -126,7 +126,8 @@ fn all_calls_at_once() {
             }
         });
         scope.spawn(|| {
-            // Where there are nine edges or more, and not too many, a trap takes longer than all else.
+            // Where there are nine edges or more, and not too many, the plain search that a trap is
+            // compared with takes longer than all else.
             let few = |edges: usize| edges <= 8 || edges > TRAP_EDGES;
             for Sheet { board, loss, .. } in sheets.iter().filter(|sheet| few(sheet.loss.len())) {
                 let set = trap::trap(board, loss);

@@ -13,8 +13,9 @@ use crate::{Board, Refusal};
 /// is written is left open.
 ///
 /// There is a trap exactly where some loop winds; on a board with open vertices that may run from one of
-/// them to another. The smallest has at most as many edges as the [`distance`](crate::distance), and a
-/// trap with s edges that are not lost, on a board with t lost edges, has t + 2s no smaller than it.
+/// them to another. The smallest has at most half as many edges as the [`distance`](crate::distance),
+/// rounded up, and a trap with s edges that are not lost, on a board with t lost edges, has t + 2s no
+/// smaller than the distance.
 ///
 /// # Errors
 ///

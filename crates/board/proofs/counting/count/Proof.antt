@@ -1,4 +1,4 @@
--- `board::counting::count` meets its contract. The loop's invariant: `total` is the number of places before i with the value. Assumes nothing.
+-- `board::counting::count` meets its contract. The loop's invariant: `total` counts the places before i with the value. Assumes nothing.
 use Prim.Native.Nat.{ℕ, _-_, _≤_}
 use mathlib.Core.Path.{_≡_, ap, _∙_}
 use mathlib.Core.Logic.{⊎-elim}

@@ -23,9 +23,13 @@ abbrev begun : tie.After-spread → tie.Start
 begun c = c .before .before .before .before .before
 
 -- the front of the array that the mask's bytes were written to
-spread-front : (c : tie.After-spread) → take (edges (lent (begun c))) (c .spread .last .1 .0 ++ drop (edges (lent (begun c))) (replicate 10 0))
-    ≡ bytes (edges (lent (begun c))) (bitOf (begun c .args .set))
-spread-front c = front-filled (edges (lent (begun c))) (bitOf (begun c .args .set)) (replicate 10 0) _ (begun c .pre .few) (c .spread .ensures)
+spread-front : (c : tie.After-spread) →
+    let start = begun c in
+    let m = edges (lent start) in
+    take m (c .spread .last .1 .0 ++ drop m (replicate 10 0)) ≡ bytes m (bitOf (start .args .set))
+spread-front c =
+    let start = begun c in
+    front-filled (edges (lent start)) (bitOf (start .args .set)) (replicate 10 0) _ (start .pre .few) (c .spread .ensures)
 
 array-borrow-prefix-handed : tie.Need-array-borrow-prefix-handed
 array-borrow-prefix-handed c = search needs
