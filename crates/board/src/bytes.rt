@@ -1,6 +1,5 @@
 ghost use Rattle.std.specs.Prelude.{◌≡◌, ◌≤◌, length};
 ghost use Rattle.model.specs.Board.{vertex_limit, edge_limit};
-ghost use Rattle.model.specs.Lent.{before};
 ghost use Rattle.model.specs.Refusals.{above};
 ghost use Rattle.model.specs.Sums.{first_up_to};
 ghost use Rattle.board.specs.Checks.{place_found, edge_found, vertex_found};
@@ -10,7 +9,7 @@ use crate::outcome::{FoundEdge, FoundVertex};
 use model::numbers::{Edge, Vertex};
 
 // Where a pass over bytes stops, if it does before the end.
-#[derive(Drop)]
+#[derive(Clone, Copy)]
 pub enum Place {
     At(usize),
     Nowhere,
@@ -18,7 +17,7 @@ pub enum Place {
 
 // The first place whose byte is above the limit: the pass behind the tests 6 to 9 and 16.
 fn first_above(bytes: &[u8], limit: u8) -> Place
-    ensures { place_found result ≡ first_up_to (length (before bytes)) (above limit (before bytes)) }
+    ensures { place_found result ≡ first_up_to (length bytes.now) (above limit bytes.now) }
 {
     if largest_byte(bytes) <= limit {
         return Place::Nowhere;
@@ -28,7 +27,7 @@ fn first_above(bytes: &[u8], limit: u8) -> Place
 
 // The same, by a look at each byte until one is above the limit.
 fn place_above(bytes: &[u8], limit: u8) -> Place
-    ensures { place_found result ≡ first_up_to (length (before bytes)) (above limit (before bytes)) }
+    ensures { place_found result ≡ first_up_to (length bytes.now) (above limit bytes.now) }
 {
     let mut i = 0;
     while i < bytes.len() {
@@ -43,7 +42,7 @@ fn place_above(bytes: &[u8], limit: u8) -> Place
 // The first edge whose byte is above the limit.
 pub fn edge_above(bytes: &[u8], limit: u8) -> FoundEdge
     requires { length bytes.now ≤ edge_limit }
-    ensures { edge_found result ≡ first_up_to (length (before bytes)) (above limit (before bytes)) }
+    ensures { edge_found result ≡ first_up_to (length bytes.now) (above limit bytes.now) }
 {
     match first_above(bytes, limit) {
         Place::At(i) => FoundEdge::At(Edge(i as u16)),
@@ -54,7 +53,7 @@ pub fn edge_above(bytes: &[u8], limit: u8) -> FoundEdge
 // The first vertex whose byte is above the limit.
 pub fn vertex_above(bytes: &[u8], limit: u8) -> FoundVertex
     requires { length bytes.now ≤ vertex_limit }
-    ensures { vertex_found result ≡ first_up_to (length (before bytes)) (above limit (before bytes)) }
+    ensures { vertex_found result ≡ first_up_to (length bytes.now) (above limit bytes.now) }
 {
     match first_above(bytes, limit) {
         Place::At(i) => FoundVertex::At(Vertex(i as u16)),

@@ -1,5 +1,4 @@
 ghost use Rattle.std.specs.Prelude.{◌≡◌};
-ghost use Rattle.model.specs.Lent.{before};
 ghost use Rattle.model.specs.Refusals.{refusal_of, count_rules};
 ghost use Rattle.board.specs.Checks.{test_of};
 
@@ -9,7 +8,7 @@ use model::refusal::Refusal;
 
 // The tests 1 to 3; `fit` says whether every other lent buffer has its length.
 pub fn check_counts(vertices: usize, ends: &[u16], fit: bool) -> Check
-    ensures { test_of result ≡ refusal_of (count_rules vertices (before ends) fit) }
+    ensures { test_of result ≡ refusal_of (count_rules vertices ends.now fit) }
 {
     if vertices < 1 || vertices > VERTICES {
         return Check::Failed(Refusal::VertexCount);

@@ -1,6 +1,5 @@
 ghost use Rattle.std.specs.Prelude.{◌≡◌, ◌*◌, ◌≤◌, length};
 ghost use Rattle.model.specs.Board.{edge_limit, plain};
-ghost use Rattle.model.specs.Lent.{before};
 ghost use Rattle.model.specs.Refusals.{edges_of, outside};
 ghost use Rattle.model.specs.Sums.{first_up_to};
 ghost use Rattle.board.specs.Checks.{edge_found};
@@ -13,7 +12,7 @@ use model::numbers::Edge;
 // Test 4: the first edge that has an end at or above the vertex count.
 pub fn first_outside(vertices: usize, ends: &[u16]) -> FoundEdge
     requires { length ends.now ≤ 2 * edge_limit }
-    ensures { edge_found result ≡ first_up_to (edges_of (before ends)) (outside (plain vertices 0 (before ends))) }
+    ensures { edge_found result ≡ first_up_to (edges_of ends.now) (outside (plain vertices 0 ends.now)) }
 {
     let top = largest_end(ends);
     if (top as usize) < vertices {
@@ -25,7 +24,7 @@ pub fn first_outside(vertices: usize, ends: &[u16]) -> FoundEdge
 // The same, by a look at each edge until one has such an end.
 fn edge_outside(vertices: usize, ends: &[u16]) -> FoundEdge
     requires { length ends.now ≤ 2 * edge_limit }
-    ensures { edge_found result ≡ first_up_to (edges_of (before ends)) (outside (plain vertices 0 (before ends))) }
+    ensures { edge_found result ≡ first_up_to (edges_of ends.now) (outside (plain vertices 0 ends.now)) }
 {
     let edges = ends.len() / 2;
     let mut e = 0;

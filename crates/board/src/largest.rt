@@ -1,12 +1,11 @@
 // Passes without a branch, which the compiler turns into vector code: the largest of what is lent. Where it keeps a rule, all of it does, and
 // no place is looked for.
 ghost use Rattle.std.specs.Prelude.{◌≡◌, length};
-ghost use Rattle.model.specs.Lent.{before};
 ghost use Rattle.board.specs.Bounds.{Bounded, entry, lesser};
 
 // The largest byte, or 0 of none.
 pub fn largest_byte(bytes: &[u8]) -> u8
-    ensures { Bounded (length (before bytes)) (entry (before bytes)) result }
+    ensures { Bounded (length bytes.now) (entry bytes.now) result }
 {
     let mut top = 0;
     let mut i = 0;
@@ -20,7 +19,7 @@ pub fn largest_byte(bytes: &[u8]) -> u8
 
 // The largest end, or 0 of none.
 pub fn largest_end(ends: &[u16]) -> u16
-    ensures { Bounded (length (before ends)) (entry (before ends)) result }
+    ensures { Bounded (length ends.now) (entry ends.now) result }
 {
     let mut top = 0;
     let mut i = 0;
@@ -35,7 +34,7 @@ pub fn largest_end(ends: &[u16]) -> u16
 // The largest over all vertices of the lesser of two bytes: 0 where no vertex has both.
 pub fn largest_lesser(bytes: &[u8], others: &[u8]) -> u8
     requires { length others.now ≡ length bytes.now }
-    ensures { Bounded (length (before bytes)) (lesser (before bytes) (before others)) result }
+    ensures { Bounded (length bytes.now) (lesser bytes.now others.now) result }
 {
     let mut top = 0;
     let mut i = 0;

@@ -1,6 +1,5 @@
 // A set of at most 64 items as a mask, whose bit i says whether item i is in the set.
 ghost use Rattle.std.specs.Prelude.{◌≡◌, ◌^◌, ◌≤◌, ◌<◌, length};
-ghost use Rattle.model.specs.Lent.{before, after};
 ghost use Rattle.model.specs.Sums.{bytes};
 ghost use Rattle.model.specs.Words.{bit_of};
 
@@ -23,7 +22,7 @@ pub fn alone(i: usize) -> usize
 // The items of a mask as bytes: as many as the buffer has.
 pub fn spread(mask: usize, filled: &mut [u8])
     requires { length filled.old ≤ 64 }
-    ensures { after filled ≡ bytes (length (before filled)) (bit_of mask) }
+    ensures { filled.new ≡ bytes (length filled.old) (bit_of mask) }
 {
     let mut i = 0;
     while i < filled.len() {

@@ -1,6 +1,5 @@
 ghost use Rattle.std.specs.Prelude.{◌≡◌, [], ◌∷◌, ◌≤◌, length};
 ghost use Rattle.model.specs.Board.{vertex_limit};
-ghost use Rattle.model.specs.Lent.{before};
 ghost use Rattle.model.specs.Refusals.{refusal_of, open_rule, lit_open, lit_open_rule};
 ghost use Rattle.model.specs.Sums.{first_up_to};
 ghost use Rattle.board.specs.Checks.{test_of, vertex_found};
@@ -14,7 +13,7 @@ use model::refusal::Refusal;
 // The first open vertex that is lit.
 fn first_lit_open(opened: &[u8], syndrome: &[u8]) -> FoundVertex
     requires { (length opened.now ≤ vertex_limit) × (length syndrome.now ≡ length opened.now) }
-    ensures { vertex_found result ≡ first_up_to (length (before opened)) (lit_open (before opened) (before syndrome)) }
+    ensures { vertex_found result ≡ first_up_to (length opened.now) (lit_open opened.now syndrome.now) }
 {
     if largest_lesser(opened, syndrome) == 0 {
         return FoundVertex::Nothing;
@@ -25,7 +24,7 @@ fn first_lit_open(opened: &[u8], syndrome: &[u8]) -> FoundVertex
 // The same, by a look at each vertex until one is open and lit.
 fn lit_open(opened: &[u8], syndrome: &[u8]) -> FoundVertex
     requires { (length opened.now ≤ vertex_limit) × (length syndrome.now ≡ length opened.now) }
-    ensures { vertex_found result ≡ first_up_to (length (before opened)) (lit_open (before opened) (before syndrome)) }
+    ensures { vertex_found result ≡ first_up_to (length opened.now) (lit_open opened.now syndrome.now) }
 {
     let mut v = 0;
     while v < opened.len() {
@@ -41,7 +40,7 @@ fn lit_open(opened: &[u8], syndrome: &[u8]) -> FoundVertex
 // The test 16.
 pub fn check_open_bytes(opened: &[u8]) -> Check
     requires { length opened.now ≤ vertex_limit }
-    ensures { test_of result ≡ refusal_of (open_rule (before opened) ∷ []) }
+    ensures { test_of result ≡ refusal_of (open_rule opened.now ∷ []) }
 {
     if let FoundVertex::At(v) = vertex_above(opened, 1) {
         return Check::Failed(Refusal::OpenByte(v));
@@ -52,7 +51,7 @@ pub fn check_open_bytes(opened: &[u8]) -> Check
 // The tests 16 and 17, once the lengths have passed.
 pub fn check_open(opened: &[u8], syndrome: &[u8]) -> Check
     requires { (length opened.now ≤ vertex_limit) × (length syndrome.now ≡ length opened.now) }
-    ensures { test_of result ≡ refusal_of (open_rule (before opened) ∷ lit_open_rule (before opened) (before syndrome) ∷ []) }
+    ensures { test_of result ≡ refusal_of (open_rule opened.now ∷ lit_open_rule opened.now syndrome.now ∷ []) }
 {
     if let Check::Failed(refusal) = check_open_bytes(opened) {
         return Check::Failed(refusal);

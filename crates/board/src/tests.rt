@@ -1,6 +1,6 @@
 ghost use Rattle.std.specs.Prelude.{◌≡◌, ◌*◌, ◌≤◌, length};
 ghost use Rattle.model.specs.Board.{edge_limit, vertex_limit, without_open};
-ghost use Rattle.model.specs.Lent.{before, board_lent, sheet_lent};
+ghost use Rattle.model.specs.Lent.{board_lent, sheet_lent};
 ghost use Rattle.model.specs.Refusals.{refusal_of, edges_of, edge_rules, byte_rules, board_rules, plain_rules, sheet_rules, decode_refusal, verdict_refusal, distance_refusal, whole_rules};
 ghost use Rattle.board.specs.Checks.{test_of};
 
@@ -14,7 +14,7 @@ use model::refusal::Refusal;
 // The tests 4 and 6, once the counts have passed.
 pub fn check_edges(vertices: usize, ends: &[u16], marks: &[u8]) -> Check
     requires { (length ends.now ≤ 2 * edge_limit) × (length marks.now ≡ edges_of ends.now) }
-    ensures { test_of result ≡ refusal_of (edge_rules (without_open vertices (before ends) (before marks))) }
+    ensures { test_of result ≡ refusal_of (edge_rules (without_open vertices ends.now marks.now)) }
 {
     if let FoundEdge::At(e) = first_outside(vertices, ends) {
         return Check::Failed(Refusal::EndRange(e));
@@ -28,7 +28,7 @@ pub fn check_edges(vertices: usize, ends: &[u16], marks: &[u8]) -> Check
 // The tests 7 and 8, once the lengths have passed. They ask nothing of the board.
 pub fn check_bytes(syndrome: &[u8], loss: &[u8]) -> Check
     requires { (length syndrome.now ≤ vertex_limit) × (length loss.now ≤ edge_limit) }
-    ensures { test_of result ≡ refusal_of (byte_rules (before syndrome) (before loss)) }
+    ensures { test_of result ≡ refusal_of (byte_rules syndrome.now loss.now) }
 {
     if let FoundVertex::At(v) = vertex_above(syndrome, 1) {
         return Check::Failed(Refusal::SyndromeByte(v));
@@ -47,7 +47,7 @@ pub fn check_board(
     opened: &[u8],
     others: bool,
 ) -> Check
-    ensures { test_of result ≡ refusal_of (board_rules (board_lent vertices ends marks opened) others) }
+    ensures { test_of result ≡ refusal_of (board_rules (board_lent vertices ends.now marks.now opened.now) others) }
 {
     let fit = (marks.len() == ends.len() / 2) & (opened.len() == vertices) & others;
     if let Check::Failed(refusal) = check_counts(vertices, ends, fit) {
@@ -64,7 +64,7 @@ pub fn check_whole_board(
     opened: &[u8],
     others: bool,
 ) -> Check
-    ensures { test_of result ≡ refusal_of (whole_rules (board_lent vertices ends marks opened) others) }
+    ensures { test_of result ≡ refusal_of (whole_rules (board_lent vertices ends.now marks.now opened.now) others) }
 {
     if let Check::Failed(refusal) = check_board(vertices, ends, marks, opened, others) {
         return Check::Failed(refusal);
@@ -82,7 +82,7 @@ fn check_plain(
     loss: &[u8],
     others: bool,
 ) -> Check
-    ensures { test_of result ≡ refusal_of (plain_rules (sheet_lent vertices ends marks opened syndrome loss) others) }
+    ensures { test_of result ≡ refusal_of (plain_rules (sheet_lent vertices ends.now marks.now opened.now syndrome.now loss.now) others) }
 {
     let fit = (syndrome.len() == vertices) & (loss.len() == ends.len() / 2) & others;
     if let Check::Failed(refusal) = check_board(vertices, ends, marks, opened, fit) {
@@ -101,7 +101,7 @@ pub fn check_sheet(
     loss: &[u8],
     others: bool,
 ) -> Check
-    ensures { test_of result ≡ refusal_of (sheet_rules (sheet_lent vertices ends marks opened syndrome loss) others) }
+    ensures { test_of result ≡ refusal_of (sheet_rules (sheet_lent vertices ends.now marks.now opened.now syndrome.now loss.now) others) }
 {
     if let Check::Failed(refusal) = check_plain(
         vertices, ends, marks, opened, syndrome, loss, others,
@@ -122,7 +122,7 @@ pub fn check_decode(
     support: &[u8],
     correction: &[u8],
 ) -> Check
-    ensures { test_of result ≡ decode_refusal (sheet_lent vertices ends marks opened syndrome loss) (before support) (before correction) }
+    ensures { test_of result ≡ decode_refusal (sheet_lent vertices ends.now marks.now opened.now syndrome.now loss.now) support.now correction.now }
 {
     let edges = ends.len() / 2;
     let fit = (support.len() == edges) & (correction.len() == edges);
@@ -139,7 +139,7 @@ pub fn check_verdict(
     loss: &[u8],
     handed: &[u8],
 ) -> Check
-    ensures { test_of result ≡ verdict_refusal (sheet_lent vertices ends marks opened syndrome loss) (before handed) }
+    ensures { test_of result ≡ verdict_refusal (sheet_lent vertices ends.now marks.now opened.now syndrome.now loss.now) handed.now }
 {
     let fit = handed.len() == ends.len() / 2;
     if let Check::Failed(refusal) = check_plain(
@@ -161,7 +161,7 @@ pub fn check_distance(
     opened: &[u8],
     shown: &[u8],
 ) -> Check
-    ensures { test_of result ≡ distance_refusal (board_lent vertices ends marks opened) (before shown) }
+    ensures { test_of result ≡ distance_refusal (board_lent vertices ends.now marks.now opened.now) shown.now }
 {
     let fit = shown.len() == ends.len() / 2;
     check_whole_board(vertices, ends, marks, opened, fit)

@@ -1,4 +1,6 @@
 // The decode program: a text on standard input, its report on standard output. A read that fails counts as the end of the text.
+#![tactic(auto)]
+
 use libc::{STDIN_FILENO, STDOUT_FILENO};
 use model::limits::TEXT;
 use report::{LONGEST, report};

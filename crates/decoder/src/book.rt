@@ -1,5 +1,4 @@
 ghost use Rattle.std.specs.Prelude.{length};
-ghost use Rattle.model.specs.Lent.{before, after};
 ghost use Rattle.model.specs.Sums.{ones};
 ghost use Rattle.model.specs.Board.{unmarked};
 ghost use Rattle.decoder.specs.LoneFigures.{Lonely};
@@ -19,7 +18,7 @@ use union_find::{Joined, alone, compress, join, root_of};
 
 // The cluster book: a union-find over the first `vertices` vertices. A vertex's cluster is its tree, and with each cluster its boundary size
 // is kept.
-#[derive(Drop)]
+#[derive(Clone, Copy)]
 pub(crate) struct Book {
     pub(crate) vertices: usize,
     // By each root, `union_find::ROOT` and the size of its tree. By any other vertex, its parent.
@@ -30,21 +29,21 @@ pub(crate) struct Book {
 }
 
 // A book, and the root of the vertex that was looked for.
-#[derive(Drop)]
+#[derive(Clone, Copy)]
 pub(crate) struct Found {
     pub(crate) book: Book,
     pub(crate) root: Vertex,
 }
 
 // A book, and which tree was hung under which.
-#[derive(Drop)]
+#[derive(Clone, Copy)]
 pub(crate) struct Fused {
     pub(crate) book: Book,
     pub(crate) joined: Joined,
 }
 
 // A book, and how many edges became full.
-#[derive(Drop)]
+#[derive(Clone, Copy)]
 pub(crate) struct Grown {
     pub(crate) book: Book,
     pub(crate) filled: usize,
@@ -63,7 +62,7 @@ impl Book {
         exposure: &[u16; Self::VERTICES],
     ) -> Self
         requires { Lonely vertices opened.now syndrome.now exposure.now }
-        ensures { Fresh vertices (before opened) (before syndrome) (before exposure) result }
+        ensures { Fresh vertices opened.now syndrome.now exposure.now result }
     {
         let mut tree = [0u16; Self::VERTICES];
         alone(vertices, &mut tree);
@@ -86,8 +85,8 @@ impl Book {
         ring: &mut [u16; Self::VERTICES],
     ) -> Self
         requires { Gatherable vertices ends.now opened.now syndrome.now support.now exposure.now ring.old }
-        ensures { Gathers (unmarked vertices (length (before support)) (before ends) (before opened)) (ones (before syndrome))
-            (before support) (before exposure) result (after ring) }
+        ensures { Gathers (unmarked vertices (length support.now) ends.now opened.now) (ones syndrome.now)
+            support.now exposure.now result ring.new }
     {
         let mut book = Self::fresh(vertices, opened, syndrome, exposure);
         let mut e = 0;
@@ -170,7 +169,7 @@ impl Book {
         filled: &mut [u16; Self::EDGES],
     ) -> Grown
         requires { Growable self ends.now latest.now earlier.now growing support.old exposure.old ring.old filled.old }
-        ensures { Grows self (before ends) growing (before support) result (after support) (after exposure) (after ring) (after filled) }
+        ensures { Grows self ends.now growing support.old result support.new exposure.new ring.new filled.new }
     {
         let vertices = self.vertices;
         let mut tree = self.tree;

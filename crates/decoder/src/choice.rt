@@ -1,5 +1,4 @@
 ghost use Rattle.std.specs.Prelude.{◌≡◌, ◌+◌};
-ghost use Rattle.model.specs.Lent.{before};
 ghost use Rattle.union_find.specs.Trees.{at};
 ghost use Rattle.decoder.specs.Figures.{odd_figure};
 ghost use Rattle.decoder.specs.Choices.{chosen_of, least_up_to, Choosable, block_length, Block, Smallest, Searchable, FirstEqual};
@@ -9,7 +8,7 @@ use model::limits::VERTICES;
 use model::numbers::Vertex;
 
 // The cluster that grows, by its smallest vertex, if any is odd.
-#[derive(Drop)]
+#[derive(Clone, Copy)]
 pub(crate) enum Chosen {
     Cluster(Vertex),
     Nothing,
@@ -22,7 +21,7 @@ const BLOCK: usize = 64;
 // The smallest figure of a block.
 fn smallest_in(figure: &[u16; VERTICES], from: usize) -> u16
     requires { Block figure.now from }
-    ensures { Smallest (before figure) from (from + block_length) result }
+    ensures { Smallest figure.now from (from + block_length) result }
 {
     let mut least = figure[from];
     let mut i = 0;
@@ -37,7 +36,7 @@ fn smallest_in(figure: &[u16; VERTICES], from: usize) -> u16
 // The first number from `from` on by which the figure stands that is sought. There is one.
 fn first_equal(figure: &[u16; VERTICES], from: usize, sought: u16) -> Vertex
     requires { Searchable figure.now from sought }
-    ensures { FirstEqual (before figure) from sought result.0 }
+    ensures { FirstEqual figure.now from sought result.0 }
 {
     let mut a = from;
     while figure[a] != sought {
@@ -51,7 +50,7 @@ fn first_equal(figure: &[u16; VERTICES], from: usize, sought: u16) -> Vertex
 // figures alone, block by block: only a smaller figure takes the place of one from an earlier block.
 pub(crate) fn choose(vertices: usize, figure: &[u16; VERTICES]) -> Chosen
     requires { Choosable vertices figure.now }
-    ensures { chosen_of result ≡ least_up_to vertices (odd_figure (before figure)) (at (before figure)) }
+    ensures { chosen_of result ≡ least_up_to vertices (odd_figure figure.now) (at figure.now) }
 {
     let mut least = Figure::EVEN;
     let mut block = 0;

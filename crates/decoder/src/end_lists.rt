@@ -1,5 +1,4 @@
 ghost use Rattle.model.specs.Board.{EndsWithin, vertex_limit};
-ghost use Rattle.model.specs.Lent.{before, after};
 ghost use Rattle.model.specs.Refusals.{edges_of};
 ghost use Rattle.decoder.specs.EndLists.{Unlisted, EndLists};
 
@@ -10,7 +9,7 @@ use model::limits::{ENDS, VERTICES};
 pub(crate) fn list_ends(ends: &[u16], latest: &mut [u16; VERTICES], earlier: &mut [u16; ENDS])
     requires ends_within { EndsWithin vertex_limit (edges_of ends.now) ends.now }
     requires unlisted { Unlisted latest.old earlier.old }
-    ensures { EndLists (before ends) (after latest) (after earlier) }
+    ensures { EndLists ends.now latest.new earlier.new }
 {
     let mut i = 0;
     while i < ends.len() {

@@ -1,7 +1,6 @@
 ghost use Rattle.std.specs.Prelude.{◌≡◌, ◌+◌, length, set};
 ghost use Rattle.model.specs.Board.{EndsWithin, vertex_limit};
 ghost use Rattle.model.specs.Growth.{full};
-ghost use Rattle.model.specs.Lent.{before, after};
 ghost use Rattle.union_find.specs.Trees.{at};
 ghost use Rattle.decoder.specs.Exposures.{Countable, Exposures};
 
@@ -12,7 +11,7 @@ use model::numbers::{Edge, HalfEdges, Vertex};
 // One end more at the vertex.
 fn count_end(exposure: &mut [u16; VERTICES], vertex: Vertex)
     requires { Countable exposure.old vertex.0 }
-    ensures { after exposure ≡ set (before exposure) vertex.0 (at (before exposure) vertex.0 + 1) }
+    ensures { exposure.new ≡ set exposure.old vertex.0 (at exposure.old vertex.0 + 1) }
 {
     let v = vertex.0 as usize;
     exposure[v] = exposure[v] + 1;
@@ -23,7 +22,7 @@ fn count_end(exposure: &mut [u16; VERTICES], vertex: Vertex)
 pub(crate) fn count_ends(ends: &[u16], support: &[u8], exposure: &mut [u16; VERTICES])
     requires ends_within { EndsWithin vertex_limit (length support.now) ends.now }
     requires exposures { Exposures 0 ends.now (full support.now) exposure.old }
-    ensures { Exposures (length (before support)) (before ends) (full (before support)) (after exposure) }
+    ensures { Exposures (length support.now) ends.now (full support.now) exposure.new }
 {
     let mut e = 0;
     while e < support.len() {

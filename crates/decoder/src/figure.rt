@@ -1,5 +1,4 @@
 ghost use Rattle.std.specs.Prelude.{◌≡◌, cond, ◌≤◌};
-ghost use Rattle.model.specs.Lent.{before};
 ghost use Rattle.model.specs.Sums.{bit};
 ghost use Rattle.decoder.specs.Figures.{figure_of, plus_figure};
 ghost use Rattle.decoder.specs.LoneFigures.{Lonely, LoneFigures};
@@ -8,7 +7,7 @@ use model::limits::VERTICES;
 
 // What is kept with a cluster: its boundary size, to which `EVEN` is added where the cluster has an even number of syndrome vertices, and
 // `OPEN` where it holds an open vertex. So the figures of the odd clusters are those below `EVEN`, and they are the boundary sizes.
-#[derive(Drop)]
+#[derive(Clone, Copy)]
 pub(crate) struct Figure(pub(crate) u16);
 
 // The amount where it holds, else 0.
@@ -64,7 +63,7 @@ pub(crate) fn lone_figures(
     exposure: &[u16; VERTICES],
 ) -> [u16; VERTICES]
     requires { Lonely vertices opened.now syndrome.now exposure.now }
-    ensures { LoneFigures vertices (before opened) (before syndrome) (before exposure) result }
+    ensures { LoneFigures vertices opened.now syndrome.now exposure.now result }
 {
     let mut figure = [Figure::NONE; VERTICES];
     let mut v = 0;

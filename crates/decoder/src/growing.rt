@@ -1,4 +1,3 @@
-ghost use Rattle.model.specs.Lent.{before};
 ghost use Rattle.decoder.specs.Choices.{Choosable};
 ghost use Rattle.decoder.specs.Growing.{policy_of, FollowsAll};
 
@@ -6,14 +5,14 @@ use crate::choice::{Chosen, choose};
 use model::limits::VERTICES;
 
 // Which clusters grow at a time: the chosen one, or in a round all that are odd.
-#[derive(Drop)]
+#[derive(Clone, Copy)]
 pub(crate) enum Growth {
     Weighted,
     Rounds,
 }
 
 // What grows next: the odd clusters whose smallest vertices are from `from` to before `to`. Nothing does where both are the same.
-#[derive(Drop)]
+#[derive(Clone, Copy)]
 pub(crate) struct Growing {
     pub(crate) from: usize,
     pub(crate) to: usize,
@@ -22,7 +21,7 @@ pub(crate) struct Growing {
 // The clusters that grow next, by the figures that the book keeps.
 pub(crate) fn next(growth: Growth, vertices: usize, figure: &[u16; VERTICES]) -> Growing
     requires { Choosable vertices figure.now }
-    ensures { FollowsAll (policy_of growth) vertices (before figure) result }
+    ensures { FollowsAll (policy_of growth) vertices figure.now result }
 {
     match choose(vertices, figure) {
         Chosen::Nothing => Growing { from: 0, to: 0 },

@@ -1,4 +1,3 @@
-ghost use Rattle.model.specs.Lent.{before, after};
 ghost use Rattle.decoder.specs.Growing.{policy_of};
 ghost use Rattle.decoder.specs.Runs.{bare, Runnable, Runs};
 
@@ -11,7 +10,7 @@ use crate::support::lose;
 use model::limits::{EDGES, ENDS, VERTICES};
 
 // The book after a run, and how many growths or rounds there were.
-#[derive(Drop)]
+#[derive(Clone, Copy)]
 pub(crate) struct Ran {
     pub(crate) book: Book,
     pub(crate) count: usize,
@@ -29,7 +28,7 @@ pub(crate) fn run(
     support: &mut [u8],
 ) -> Ran
     requires { Runnable vertices ends.now opened.now syndrome.now loss.now support.old }
-    ensures { Runs (policy_of growth) (bare vertices (before ends) (before opened) (before syndrome) (before loss)) result (after support) }
+    ensures { Runs (policy_of growth) (bare vertices ends.now opened.now syndrome.now loss.now) result support.new }
 {
     lose(loss, support);
     let mut exposure = [0u16; VERTICES];

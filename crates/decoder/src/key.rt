@@ -1,4 +1,3 @@
-ghost use Rattle.model.specs.Lent.{before, after};
 ghost use Rattle.decoder.specs.Growing.{policy_of};
 ghost use Rattle.decoder.specs.Runs.{bare};
 ghost use Rattle.decoder.specs.Keys.{Keyable, Keys};
@@ -15,7 +14,7 @@ use parts::first_odd;
 use peeling::{clear, peel};
 
 // A key, with the number of growths or rounds and that of correction edges, or a refusal.
-#[derive(Drop)]
+#[derive(Clone, Copy)]
 pub(crate) enum Solved {
     Key { count: usize, edges: usize },
     Refused(Refusal),
@@ -34,8 +33,8 @@ pub(crate) fn key(
     correction: &mut [u8],
 ) -> Solved
     requires { Keyable vertices ends.now opened.now syndrome.now loss.now support.old correction.old }
-    ensures { Keys (policy_of growth) (bare vertices (before ends) (before opened) (before syndrome) (before loss))
-        (before support) (before correction) result (after support) (after correction) }
+    ensures { Keys (policy_of growth) (bare vertices ends.now opened.now syndrome.now loss.now)
+        support.old correction.old result support.new correction.new }
 {
     if largest_byte(syndrome) == 0 {
         lose(loss, support);

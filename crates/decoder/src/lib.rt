@@ -1,5 +1,7 @@
 // Decoding: tests, the parts of the whole board, growth on the cluster book, and peeling. Weighted growth and rounds differ in which
 // clusters grow, and in nothing else.
+#![tactic(auto)]
+
 mod book;
 mod choice;
 mod end_lists;
@@ -18,7 +20,7 @@ mod solve;
 mod support;
 mod tally;
 
-ghost use Rattle.model.specs.Lent.{before, after, sheet_lent};
+ghost use Rattle.model.specs.Lent.{sheet_lent};
 ghost use Rattle.model.specs.Outcomes.{Decodes, DecodesSoundly};
 ghost use Rattle.model.specs.RoundsOutcomes.{DecodesInRounds, RoundsSoundly};
 
@@ -39,10 +41,10 @@ pub fn decode(
     support: &mut [u8],
     correction: &mut [u8],
 ) -> Decoded
-    ensures key { Decodes (sheet_lent vertices ends marks opened syndrome loss) (before support) (before correction)
-        result (after support) (after correction) }
-    ensures sound { DecodesSoundly (sheet_lent vertices ends marks opened syndrome loss) (before support) (before correction)
-        result (after correction) }
+    ensures key { Decodes (sheet_lent vertices ends.now marks.now opened.now syndrome.now loss.now) support.old correction.old
+        result support.new correction.new }
+    ensures sound { DecodesSoundly (sheet_lent vertices ends.now marks.now opened.now syndrome.now loss.now) support.old correction.old
+        result correction.new }
 {
     match solve(
         Growth::Weighted,
@@ -75,10 +77,10 @@ pub fn decode_rounds(
     support: &mut [u8],
     correction: &mut [u8],
 ) -> RoundsDecoded
-    ensures key { DecodesInRounds (sheet_lent vertices ends marks opened syndrome loss) (before support) (before correction)
-        result (after support) (after correction) }
-    ensures sound { RoundsSoundly (sheet_lent vertices ends marks opened syndrome loss) (before support) (before correction)
-        result (after support) (after correction) }
+    ensures key { DecodesInRounds (sheet_lent vertices ends.now marks.now opened.now syndrome.now loss.now) support.old correction.old
+        result support.new correction.new }
+    ensures sound { RoundsSoundly (sheet_lent vertices ends.now marks.now opened.now syndrome.now loss.now) support.old correction.old
+        result support.new correction.new }
 {
     match solve(
         Growth::Rounds,

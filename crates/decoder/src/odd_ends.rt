@@ -1,5 +1,4 @@
 ghost use Rattle.std.specs.Prelude.{length};
-ghost use Rattle.model.specs.Lent.{before};
 ghost use Rattle.decoder.specs.OddEnds.{Markable, MarksEnds};
 
 use crate::tally::tally;
@@ -9,7 +8,7 @@ use model::limits::VERTICES;
 // That is the first to be met, and the count of its cluster then becomes 0. No open vertex is lit.
 pub(crate) fn odd_ends(labels: &[u16; VERTICES], opened: &[u8], syndrome: &[u8]) -> [u8; VERTICES]
     requires { Markable labels.now opened.now syndrome.now }
-    ensures { MarksEnds (length (before syndrome)) (before labels) (before opened) (before syndrome) result }
+    ensures { MarksEnds (length syndrome.now) labels.now opened.now syndrome.now result }
 {
     let mut counts = tally(labels, syndrome);
     let mut ends = [0u8; VERTICES];

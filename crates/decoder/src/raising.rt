@@ -1,5 +1,4 @@
 // A growth's half-edges: they go to the edges at the boundary of the clusters that grow.
-ghost use Rattle.model.specs.Lent.{before, after};
 ghost use Rattle.decoder.specs.Raising.{RingRaisable, RaisesRing, Raisable, Raises};
 
 use crate::figure::Figure;
@@ -20,8 +19,8 @@ fn raise_ring(
     count: usize,
 ) -> usize
     requires { RingRaisable latest.now earlier.now ring.now name.0 support.old filled.old count }
-    ensures { RaisesRing (before latest) (before earlier) (before ring) name.0 (before support) (before filled) count
-        result (after support) (after filled) }
+    ensures { RaisesRing latest.now earlier.now ring.now name.0 support.old filled.old count
+        result support.new filled.new }
 {
     let mut total = count;
     let mut v = name.0;
@@ -47,8 +46,8 @@ pub(crate) fn raise(
     filled: &mut [u16; EDGES],
 ) -> usize
     requires { Raisable latest.now earlier.now figure.now growing exposure.now ring.old support.old filled.old }
-    ensures { Raises (before latest) (before earlier) (before figure) growing (before exposure) (before ring) (before support) (before filled)
-        result (after ring) (after support) (after filled) }
+    ensures { Raises latest.now earlier.now figure.now growing exposure.now ring.old support.old filled.old
+        result ring.new support.new filled.new }
 {
     let mut count = 0;
     let mut a = growing.from;

@@ -2,7 +2,6 @@
 // all that are on its boundary. Growth looks at no other vertex.
 ghost use Rattle.std.specs.Prelude.{◌≡◌, ◌≤◌, length};
 ghost use Rattle.model.specs.Board.{vertex_limit};
-ghost use Rattle.model.specs.Lent.{before, after};
 ghost use Rattle.union_find.specs.Packed.{parents_of};
 ghost use Rattle.decoder.specs.Figures.{names_by};
 ghost use Rattle.decoder.specs.Rings.{LoneRings, Prunable, Prunes, BothNamed, JoinsRings};
@@ -14,7 +13,7 @@ use model::numbers::Vertex;
 // Each vertex alone: its ring is itself.
 pub(crate) fn lone_rings(vertices: usize, ring: &mut [u16; VERTICES])
     requires { (vertices ≤ vertex_limit) × (length ring.old ≡ vertex_limit) }
-    ensures { LoneRings vertices (after ring) }
+    ensures { LoneRings vertices ring.new }
 {
     let mut v = 0;
     while v < vertices {
@@ -26,7 +25,7 @@ pub(crate) fn lone_rings(vertices: usize, ring: &mut [u16; VERTICES])
 // The ring of the cluster with that smallest vertex, without the vertices that have left the boundary. The smallest stays, as the ring's place.
 pub(crate) fn prune(exposure: &[u16; VERTICES], ring: &mut [u16; VERTICES], name: Vertex)
     requires { Prunable exposure.now ring.old name.0 }
-    ensures { Prunes (before exposure) (before ring) name.0 (after ring) }
+    ensures { Prunes exposure.now ring.old name.0 ring.new }
 {
     let mut kept = name.0;
     let mut v = ring[name.0 as usize];
@@ -50,7 +49,7 @@ pub(crate) fn join_rings<'a>(
     b: Vertex,
 )
     requires { BothNamed (parents_of tree.now) (names_by figure.now) a.0 b.0 }
-    ensures { JoinsRings (parents_of (before tree)) (names_by (before figure)) a.0 b.0 (before ring) (after ring) }
+    ensures { JoinsRings (parents_of tree.now) (names_by figure.now) a.0 b.0 ring.old ring.new }
 {
     let one = name_of(tree, figure, a);
     let other = name_of(tree, figure, b);

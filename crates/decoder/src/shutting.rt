@@ -1,4 +1,3 @@
-ghost use Rattle.model.specs.Lent.{before, after};
 ghost use Rattle.union_find.specs.Packed.{parents_of};
 ghost use Rattle.decoder.specs.Figures.{names_by};
 ghost use Rattle.decoder.specs.Shutting.{Shuttable, Shuts, ListShuttable, ListShut};
@@ -16,8 +15,8 @@ fn shut(
     figure: &mut [u16; VERTICES],
 )
     requires { Shuttable (parents_of tree.now) (names_by figure.old) vertex.0 exposure.old figure.old }
-    ensures { Shuts (parents_of (before tree)) (names_by (before figure)) vertex.0 (before exposure) (before figure)
-        (after exposure) (after figure) }
+    ensures { Shuts (parents_of tree.now) (names_by figure.old) vertex.0 exposure.old figure.old
+        exposure.new figure.new }
 {
     let v = vertex.0 as usize;
     exposure[v] = exposure[v] - 1;
@@ -38,8 +37,8 @@ pub(crate) fn shut_listed(
     figure: &mut [u16; VERTICES],
 )
     requires { ListShuttable (parents_of tree.now) (names_by figure.old) ends.now filled.now count exposure.old figure.old }
-    ensures { ListShut (parents_of (before tree)) (names_by (before figure)) (before ends) (before filled) count
-        (before exposure) (before figure) (after exposure) (after figure) }
+    ensures { ListShut (parents_of tree.now) (names_by figure.old) ends.now filled.now count
+        exposure.old figure.old exposure.new figure.new }
 {
     let mut i = 0;
     while i < count {

@@ -1,4 +1,4 @@
-ghost use Rattle.model.specs.Lent.{before, after, sheet_lent};
+ghost use Rattle.model.specs.Lent.{sheet_lent};
 ghost use Rattle.decoder.specs.Growing.{policy_of};
 ghost use Rattle.decoder.specs.Keys.{Solves};
 
@@ -19,8 +19,8 @@ pub(crate) fn solve(
     support: &mut [u8],
     correction: &mut [u8],
 ) -> Solved
-    ensures { Solves (policy_of growth) (sheet_lent vertices ends marks opened syndrome loss) (before support) (before correction)
-        result (after support) (after correction) }
+    ensures { Solves (policy_of growth) (sheet_lent vertices ends.now marks.now opened.now syndrome.now loss.now) support.old correction.old
+        result support.new correction.new }
 {
     if let Check::Failed(refusal) = check_decode(
         vertices, ends, marks, opened, syndrome, loss, support, correction,

@@ -1,5 +1,4 @@
 ghost use Rattle.std.specs.Prelude.{◌≡◌, length};
-ghost use Rattle.model.specs.Lent.{before, after};
 ghost use Rattle.decoder.specs.Gains.{Liftable, Lifts, RaisableAt, RaisesAt, start_of};
 
 use model::limits::{EDGES, ENDS, VERTICES};
@@ -9,7 +8,7 @@ use model::numbers::{Edge, FULL, HalfEdges, Vertex};
 // then.
 fn lift(support: &mut [u8], filled: &mut [u16; EDGES], edge: Edge, count: usize) -> usize
     requires { Liftable support.old edge.0 count }
-    ensures { Lifts (before support) (before filled) edge.0 count result (after support) (after filled) }
+    ensures { Lifts support.old filled.old edge.0 count result support.new filled.new }
 {
     let e = edge.0 as usize;
     let byte = support[e];
@@ -35,8 +34,8 @@ pub(crate) fn raise_at(
     count: usize,
 ) -> usize
     requires { RaisableAt latest.now earlier.now vertex.0 support.old filled.old count }
-    ensures { RaisesAt (before latest) (before earlier) vertex.0 (before support) (before filled) count
-        result (after support) (after filled) }
+    ensures { RaisesAt latest.now earlier.now vertex.0 support.old filled.old count
+        result support.new filled.new }
 {
     let mut total = count;
     let mut place = latest[vertex.0 as usize];
@@ -52,7 +51,7 @@ pub(crate) fn raise_at(
 // Lost edges start at 2, others at 0.
 pub(crate) fn lose(loss: &[u8], support: &mut [u8])
     requires { length loss.now ≡ length support.old }
-    ensures { after support ≡ start_of (before loss) }
+    ensures { support.new ≡ start_of loss.now }
 {
     let mut e = 0;
     while e < loss.len() {

@@ -1,5 +1,4 @@
 ghost use Rattle.std.specs.Prelude.{length};
-ghost use Rattle.model.specs.Lent.{before};
 ghost use Rattle.decoder.specs.Tallies.{Tallied, Tallies};
 
 use model::limits::VERTICES;
@@ -7,7 +6,7 @@ use model::limits::VERTICES;
 // For each label, how many of its vertices have a 1 among the members.
 pub(crate) fn tally(labels: &[u16; VERTICES], members: &[u8]) -> [u16; VERTICES]
     requires { Tallied (length members.now) labels.now }
-    ensures { Tallies (length (before members)) (before labels) (before members) result }
+    ensures { Tallies (length members.now) labels.now members.now result }
 {
     let mut counts = [0u16; VERTICES];
     let mut v = 0;

@@ -2,7 +2,6 @@
 ghost use Rattle.std.specs.Prelude.{◌≡◌, ◌≤◌, length};
 ghost use Rattle.model.specs.Board.{vertex_limit};
 ghost use Rattle.model.specs.Identified.{or_zero};
-ghost use Rattle.model.specs.Lent.{before, after};
 ghost use Rattle.model.specs.Sums.{first_up_to, ones};
 ghost use Rattle.distance.specs.Gluing.{Gluable, Glues};
 
@@ -12,7 +11,7 @@ use model::numbers::Vertex;
 // The smallest open vertex, and 0 where none is open.
 fn gate(opened: &[u8]) -> Vertex
     requires { length opened.now ≤ vertex_limit }
-    ensures { result.0 ≡ or_zero (first_up_to (length (before opened)) (ones (before opened))) }
+    ensures { result.0 ≡ or_zero (first_up_to (length opened.now) (ones opened.now)) }
 {
     let mut v = 0;
     while v < opened.len() {
@@ -28,7 +27,7 @@ fn gate(opened: &[u8]) -> Vertex
 // Each end that is open is sent to the gate, any other stays: the front of `glued` takes them.
 pub fn glue(ends: &[u16], opened: &[u8], glued: &mut [u16; ENDS])
     requires { Gluable ends.now opened.now glued.old }
-    ensures { Glues (before ends) (before opened) (after glued) }
+    ensures { Glues ends.now opened.now glued.new }
 {
     let to = gate(opened);
     let mut i = 0;

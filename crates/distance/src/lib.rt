@@ -1,5 +1,7 @@
 // The distance of a board: the fewest edges of a winding loop, by breadth-first walks over four copies of the board on which all open
 // vertices are one.
+#![tactic(auto)]
+
 mod glue;
 mod search;
 mod state;
@@ -8,7 +10,7 @@ mod walk;
 
 ghost use Rattle.std.specs.Prelude.{◌≡◌, replicate};
 ghost use Rattle.model.specs.Board.{edge_limit};
-ghost use Rattle.model.specs.Lent.{before, after, board_lent};
+ghost use Rattle.model.specs.Lent.{board_lent};
 ghost use Rattle.model.specs.Outcomes.{Measures};
 ghost use Rattle.distance.specs.Found.{Answered, bytes_written};
 
@@ -30,7 +32,7 @@ fn measure(
     found: &mut [u8; EDGES],
 ) -> Distance
     requires { found.old ≡ replicate edge_limit 0 }
-    ensures { Answered (board_lent vertices ends marks opened) (before shown) result (after found) }
+    ensures { Answered (board_lent vertices ends.now marks.now opened.now) shown.now result found.new }
 {
     if let Check::Failed(refusal) = check_distance(vertices, ends, marks, opened, shown) {
         return Distance::Refused(refusal);
@@ -66,7 +68,7 @@ pub fn distance(
     opened: &[u8],
     shown: &mut [u8],
 ) -> Distance
-    ensures { Measures (board_lent vertices ends marks opened) (before shown) result (after shown) }
+    ensures { Measures (board_lent vertices ends.now marks.now opened.now) shown.old result shown.new }
 {
     let mut found = [0u8; EDGES];
     let answer = measure(vertices, ends, marks, opened, shown, &mut found);

@@ -1,5 +1,4 @@
 ghost use Rattle.std.specs.Prelude.{◌≡◌, replicate};
-ghost use Rattle.model.specs.Lent.{before, after};
 ghost use Rattle.model.specs.Board.{without_open, Valid, edge_limit};
 ghost use Rattle.distance.specs.States.{padded};
 ghost use Rattle.distance.specs.Walking.{Ready};
@@ -27,7 +26,7 @@ fn improve(
     found: &mut [u8; EDGES],
 ) -> u16
     requires { Ready ends.now marks.now offsets.now entries.now start.0 best }
-    ensures { Improved (padded (before ends) (before marks)) start.0 best (before found) result (after found) }
+    ensures { Improved (padded ends.now marks.now) start.0 best found.old result found.new }
 {
     let mut depth = [0u16; STATES];
     let mut via = [0u16; STATES];
@@ -45,7 +44,7 @@ fn improve(
 pub fn shortest(vertices: usize, ends: &[u16], marks: &[u8], found: &mut [u8; EDGES]) -> u16
     requires valid { Valid (without_open vertices ends.now marks.now) }
     requires found_value { found.old ≡ replicate edge_limit 0 }
-    ensures { Shortest (without_open vertices (before ends) (before marks)) result (after found) }
+    ensures { Shortest (without_open vertices ends.now marks.now) result found.new }
 {
     let mut offsets = [0u16; OFFSETS];
     let mut entries = [0u16; ENTRIES];

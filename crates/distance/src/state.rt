@@ -1,5 +1,4 @@
 ghost use Rattle.std.specs.Prelude.{◌≡◌, ◌/◌, ◌<◌};
-ghost use Rattle.model.specs.Lent.{before};
 ghost use Rattle.model.specs.Board.{Valid, edges, vertex_limit};
 ghost use Rattle.distance.specs.States.{across, padded};
 ghost use Rattle.distance.specs.Search.{home};
@@ -12,7 +11,7 @@ use model::numbers::{Edge, Vertex};
 pub const STATES: usize = 4 * VERTICES;
 
 // A vertex on one of four copies of the board, one for each mark value: 4 * v + x is vertex v on copy x.
-#[derive(Drop)]
+#[derive(Clone, Copy)]
 pub struct State(pub u16);
 
 impl State {
@@ -34,7 +33,7 @@ impl State {
     // The state across an edge: the edge's other end, on the copy that differs by the edge's mark.
     pub fn across(self, ends: &[u16], marks: &[u8], edge: Edge) -> State
         requires { Valid (padded ends.now marks.now) × (edge.0 < edges (padded ends.now marks.now)) }
-        ensures { result.0 ≡ across (padded (before ends) (before marks)) self.0 edge.0 }
+        ensures { result.0 ≡ across (padded ends.now marks.now) self.0 edge.0 }
     {
         let first = first_end(ends, edge);
         let second = second_end(ends, edge);

@@ -1,6 +1,5 @@
 ghost use Rattle.std.specs.Prelude.{◌≡◌};
 ghost use Rattle.model.specs.Board.{edge_limit};
-ghost use Rattle.model.specs.Lent.{before, after};
 ghost use Rattle.model.specs.Sums.{bytes};
 ghost use Rattle.distance.specs.States.{padded};
 ghost use Rattle.distance.specs.Search.{at, passed_from};
@@ -21,8 +20,8 @@ pub fn trace(
     found: &mut [u8; EDGES],
 )
     requires { Traceable ends.now marks.now depth.now via.now from.0 }
-    ensures { after found ≡ bytes edge_limit
-        (passed_from (padded (before ends) (before marks)) (at (before depth)) (at (before via)) from.0) }
+    ensures { found.new ≡ bytes edge_limit
+        (passed_from (padded ends.now marks.now) (at depth.now) (at via.now) from.0) }
 {
     *found = [0; EDGES];
     let mut state = from;

@@ -1,4 +1,3 @@
-ghost use Rattle.model.specs.Lent.{before, after};
 ghost use Rattle.distance.specs.States.{padded};
 ghost use Rattle.distance.specs.Search.{at};
 ghost use Rattle.distance.specs.Walking.{Room, Entry, Ready, Fresh, Walked};
@@ -19,8 +18,8 @@ fn enter(
     tail: &mut usize,
 ) -> bool
     requires { Room depth.old via.old queue.old tail.old state.0 }
-    ensures { Entry (before depth) (before via) (before queue) tail.old state.0 edge.0 level
-        result (after depth) (after via) (after queue) tail.new }
+    ensures { Entry depth.old via.old queue.old tail.old state.0 edge.0 level
+        result depth.new via.new queue.new tail.new }
 {
     let i = state.0 as usize;
     if depth[i] != 0 {
@@ -35,7 +34,7 @@ fn enter(
 }
 
 // Where a walk met its start on another copy.
-#[derive(Drop)]
+#[derive(Clone, Copy)]
 pub enum Meeting {
     At(State),
     Nowhere,
@@ -58,7 +57,7 @@ pub fn walk(
 ) -> Meeting
     requires ready { Ready ends.now marks.now offsets.now entries.now start.0 best }
     requires fresh { Fresh depth.old via.old queue.old }
-    ensures { Walked (padded (before ends) (before marks)) start.0 best (at (after depth)) (at (after via)) result }
+    ensures { Walked (padded ends.now marks.now) start.0 best (at depth.new) (at via.new) result }
 {
     let home = State::home(start);
     depth[home.0 as usize] = 1;

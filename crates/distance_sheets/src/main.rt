@@ -1,5 +1,7 @@
 // Distances: the marked sheets' boards, parallel edges, loop edges, boards without a winding loop, tori, rings up to the limits, and
 // every refusal with the buffer it left.
+#![tactic(auto)]
+
 ghost use Rattle.std.specs.Prelude.{◌≤◌, length};
 
 use libc::STDOUT_FILENO;
@@ -164,7 +166,7 @@ fn wide(x: u8) -> u16 {
 }
 
 // What the ends and marks of a sheet are filled with.
-#[derive(Drop)]
+#[derive(Clone, Copy)]
 enum Filling {
     Zeros,
     Ring,

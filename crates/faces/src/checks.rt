@@ -1,6 +1,5 @@
 // The tests of what the verdict with faces is lent: 11, 3, 7, 8 and 9, in this order.
 ghost use Rattle.std.specs.Prelude.{◌≡◌};
-ghost use Rattle.model.specs.Lent.{before};
 ghost use Rattle.model.specs.Refusals.{refusal_of, torus_byte_rules, faces_refusal};
 ghost use Rattle.board.specs.Checks.{test_of};
 ghost use Rattle.torus.specs.Sides.{SideWithin};
@@ -21,7 +20,7 @@ fn check_torus_bytes(
 ) -> Check
     requires { SideWithin side }
     ensures { test_of result ≡ refusal_of
-        (torus_byte_rules side (before syndrome) (before loss) (before handed) (before faces)) }
+        (torus_byte_rules side syndrome.now loss.now handed.now faces.now) }
 {
     let vertices = side * side;
     let edges = 2 * vertices;
@@ -47,7 +46,7 @@ pub(crate) fn check_faces(
     handed: &[u8],
     faces: &[u8],
 ) -> Check
-    ensures { test_of result ≡ faces_refusal side (before syndrome) (before loss) (before handed) (before faces) }
+    ensures { test_of result ≡ faces_refusal side syndrome.now loss.now handed.now faces.now }
 {
     if side < LEAST_SIDE || side > LARGEST_SIDE {
         return Check::Failed(Refusal::TorusSide(side));

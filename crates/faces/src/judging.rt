@@ -1,6 +1,5 @@
 // The verdict on a torus that is built for it.
 ghost use Rattle.std.specs.Prelude.{◌≡◌, ◌*◌, length};
-ghost use Rattle.model.specs.Lent.{before, after};
 ghost use Rattle.faces.specs.Lent.{OnTorus, TorusLent, Judged};
 
 use model::answers::Verdict;
@@ -17,7 +16,7 @@ pub(crate) fn judge(
     correction: &mut [u8],
 ) -> Verdict
     requires { OnTorus side syndrome.now loss.now handed.now × (length correction.old ≡ 2 * (side * side)) }
-    ensures { Judged side (before syndrome) (before loss) (before handed) (before correction) result (after correction) }
+    ensures { Judged side syndrome.now loss.now handed.now correction.old result correction.new }
 {
     let vertices = side * side;
     let edges = 2 * vertices;
@@ -52,7 +51,7 @@ fn build_and_compare(
 ) -> Verdict
     requires { OnTorus side syndrome.now loss.now handed.now
         × TorusLent side ends.old marks.old opened.now support.old correction.old }
-    ensures { Judged side (before syndrome) (before loss) (before handed) (before correction) result (after correction) }
+    ensures { Judged side syndrome.now loss.now handed.now correction.old result correction.new }
 {
     fill_ends(side, ends);
     fill_marks(side, marks);

@@ -1,10 +1,11 @@
 // The verdict on the torus of side L, with faces as evidence: under same, the faces that make up the handed-in set and the correction.
+#![tactic(auto)]
+
 mod checks;
 mod judging;
 mod marking;
 
 ghost use Rattle.std.specs.Prelude.{◌≡◌, ◌*◌, length};
-ghost use Rattle.model.specs.Lent.{before, after};
 ghost use Rattle.model.specs.FacesOutcomes.{ShowsFaces, FacesSoundly};
 ghost use Rattle.faces.specs.Lent.{ForFaces, Answered};
 
@@ -18,8 +19,8 @@ use model::limits::TORUS_EDGES;
 // Off, same or wound, or a refusal, as the verdict on the torus answers; under same with a byte for each face filled in, and otherwise with
 // nothing written.
 pub fn faces(side: usize, syndrome: &[u8], loss: &[u8], handed: &[u8], faces: &mut [u8]) -> Verdict
-    ensures outcome { ShowsFaces side (before syndrome) (before loss) (before handed) (before faces) result (after faces) }
-    ensures sound { FacesSoundly side (before syndrome) (before loss) (before handed) (before faces) result (after faces) }
+    ensures outcome { ShowsFaces side syndrome.now loss.now handed.now faces.old result faces.new }
+    ensures sound { FacesSoundly side syndrome.now loss.now handed.now faces.old result faces.new }
 {
     if let Check::Failed(refusal) = check_faces(side, syndrome, loss, handed, faces) {
         return Verdict::Refused(refusal);
@@ -47,7 +48,7 @@ fn judge_and_mark(
 ) -> Verdict
     requires { ForFaces side syndrome.now loss.now handed.now faces.old
         × (length correction.old ≡ 2 * (side * side)) }
-    ensures { Answered side (before syndrome) (before loss) (before handed) (before faces) result (after faces) }
+    ensures { Answered side syndrome.now loss.now handed.now faces.old result faces.new }
 {
     let verdict = judge(side, syndrome, loss, handed, correction);
     if let Verdict::Same = verdict {

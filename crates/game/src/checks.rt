@@ -1,7 +1,7 @@
 // The tests of what the game is lent.
 ghost use Rattle.std.specs.Prelude.{◌≡◌, [], ◌∷◌, ◌≤◌, length};
 ghost use Rattle.model.specs.Board.{edge_limit};
-ghost use Rattle.model.specs.Lent.{before, board_lent};
+ghost use Rattle.model.specs.Lent.{board_lent};
 ghost use Rattle.model.specs.Refusals.{refusal_of, position_rule, move_rule, game_refusal};
 ghost use Rattle.board.specs.Checks.{test_of};
 
@@ -15,7 +15,7 @@ use model::refusal::Refusal;
 // The tests 21 and 22 of a position.
 fn check_position(position: &[u8]) -> Check
     requires { length position.now ≤ edge_limit }
-    ensures { test_of result ≡ refusal_of (position_rule (before position) ∷ move_rule (before position) ∷ []) }
+    ensures { test_of result ≡ refusal_of (position_rule position.now ∷ move_rule position.now ∷ []) }
 {
     if let FoundEdge::At(e) = edge_above(position, 2) {
         return Check::Failed(Refusal::PositionByte(e));
@@ -37,7 +37,7 @@ pub(crate) fn check_game(
     opened: &[u8],
     position: &[u8],
 ) -> Check
-    ensures { test_of result ≡ game_refusal (board_lent vertices ends marks opened) (before position) }
+    ensures { test_of result ≡ game_refusal (board_lent vertices ends.now marks.now opened.now) position.now }
 {
     let fit = position.len() == ends.len() / 2;
     if let Check::Failed(refusal) = check_whole_board(vertices, ends, marks, opened, fit) {

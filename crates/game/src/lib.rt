@@ -1,4 +1,6 @@
 // The game of Winder and Blocker: who can force the win from a position, and the smallest edge that keeps it.
+#![tactic(auto)]
+
 mod checks;
 mod loops;
 mod masks;
@@ -8,7 +10,7 @@ ghost use Rattle.std.specs.Prelude.{◌≡◌};
 ghost use Rattle.model.specs.Board.{board_of};
 ghost use Rattle.model.specs.Game.{forced};
 ghost use Rattle.model.specs.GameOutcomes.{Plays, PlaysSoundly};
-ghost use Rattle.model.specs.Lent.{before, board_lent};
+ghost use Rattle.model.specs.Lent.{board_lent};
 ghost use Rattle.game.specs.Playable.{Playable};
 
 use crate::checks::check_game;
@@ -24,7 +26,7 @@ use model::limits::GAME_SETS;
 // edge, 1 that of Winder's and 2 that of Blocker's.
 fn search(vertices: usize, ends: &[u16], marks: &[u8], opened: &[u8], position: &[u8]) -> Forced
     requires { Playable (board_of vertices ends.now marks.now opened.now) position.now }
-    ensures { result ≡ forced (board_lent vertices ends marks opened) (before position) }
+    ensures { result ≡ forced (board_lent vertices ends.now marks.now opened.now) position.now }
 {
     let mut loops = [0u8; GAME_SETS];
     fill_loops(vertices, ends, marks, opened, &mut loops);
@@ -44,8 +46,8 @@ fn search(vertices: usize, ends: &[u16], marks: &[u8], opened: &[u8], position: 
 // Who can force the win from a position, and by which edge where that player is to move: the smallest that keeps it. A position that is
 // finished names its winner and no edge. Nothing that is lent is written.
 pub fn game(vertices: usize, ends: &[u16], marks: &[u8], opened: &[u8], position: &[u8]) -> Game
-    ensures answer { Plays (board_lent vertices ends marks opened) (before position) result }
-    ensures sound { PlaysSoundly (board_lent vertices ends marks opened) (before position) result }
+    ensures answer { Plays (board_lent vertices ends.now marks.now opened.now) position.now result }
+    ensures sound { PlaysSoundly (board_lent vertices ends.now marks.now opened.now) position.now result }
 {
     if let Check::Failed(refusal) = check_game(vertices, ends, marks, opened, position) {
         return Game::Refused(refusal);

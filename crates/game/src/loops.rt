@@ -1,7 +1,7 @@
 // For every set of edges, whether it contains a winding loop: a table with a byte for each mask.
 ghost use Rattle.std.specs.Prelude.{◌≡◌, ◌&&◌, ◌-◌, ◌^◌, ◌≤◌, ◌<◌, length};
 ghost use Rattle.model.specs.Board.{board_of};
-ghost use Rattle.model.specs.Lent.{before, after, board_lent};
+ghost use Rattle.model.specs.Lent.{board_lent};
 ghost use Rattle.model.specs.Sums.{bit, ones, some_up_to};
 ghost use Rattle.model.specs.Winding.{winds};
 ghost use Rattle.model.specs.Words.{bit_of};
@@ -17,7 +17,7 @@ use verdict::judge::{is_wound, judge};
 // Says whether a set is a winding loop: whether, beside no correction for no syndrome, the verdict on it is wound.
 fn winding(vertices: usize, ends: &[u16], marks: &[u8], opened: &[u8], set: usize) -> bool
     requires { Small (board_of vertices ends.now marks.now opened.now) }
-    ensures { result ≡ winds (board_lent vertices ends marks opened) (bit_of set) }
+    ensures { result ≡ winds (board_lent vertices ends.now marks.now opened.now) (bit_of set) }
 {
     let edges = marks.len();
     let mut handed = [0u8; GAME_EDGES];
@@ -38,7 +38,7 @@ fn winding(vertices: usize, ends: &[u16], marks: &[u8], opened: &[u8], set: usiz
 // Says whether a set has edge e and contains a winding loop without it, by the byte of the smaller mask.
 fn holds_without(loops: &[u8; GAME_SETS], set: usize, e: usize) -> bool
     requires { (e < game_limit) × (set < set_limit) }
-    ensures { result ≡ (bit_of set e && ones (before loops) (set - 2 ^ e)) }
+    ensures { result ≡ (bit_of set e && ones loops.now (set - 2 ^ e)) }
 {
     if has(set, e) {
         let less = set - alone(e);
@@ -50,7 +50,7 @@ fn holds_without(loops: &[u8; GAME_SETS], set: usize, e: usize) -> bool
 // Says whether a set contains a winding loop without one of its edges.
 fn holds_less(loops: &[u8; GAME_SETS], edges: usize, set: usize) -> bool
     requires { (edges ≤ game_limit) × (set < set_limit) }
-    ensures { result ≡ some_up_to edges (λ e. bit_of set e && ones (before loops) (set - 2 ^ e)) }
+    ensures { result ≡ some_up_to edges (λ e. bit_of set e && ones loops.now (set - 2 ^ e)) }
 {
     let mut e = 0;
     while e < edges {
@@ -73,7 +73,7 @@ fn looped(
 ) -> u8
     requires small { Small (board_of vertices ends.now marks.now opened.now) × (set < 2 ^ length marks.now) }
     requires filled { Filled (board_of vertices ends.now marks.now opened.now) set loops.now }
-    ensures { result ≡ bit (holds_loop (board_lent vertices ends marks opened) (bit_of set)) }
+    ensures { result ≡ bit (holds_loop (board_lent vertices ends.now marks.now opened.now) (bit_of set)) }
 {
     if holds_less(loops, marks.len(), set) {
         return 1;
@@ -90,7 +90,7 @@ pub(crate) fn fill_loops(
     loops: &mut [u8; GAME_SETS],
 )
     requires { Small (board_of vertices ends.now marks.now opened.now) × (length loops.old ≡ set_limit) }
-    ensures { Filled (board_lent vertices ends marks opened) (2 ^ length (before marks)) (after loops) }
+    ensures { Filled (board_lent vertices ends.now marks.now opened.now) (2 ^ length marks.now) loops.new }
 {
     let all = alone(marks.len());
     let mut set = 0;

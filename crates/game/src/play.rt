@@ -3,7 +3,6 @@
 ghost use Rattle.std.specs.Prelude.{◌≡◌};
 ghost use Rattle.model.specs.Game.{same, forced_by};
 ghost use Rattle.model.specs.declared.answers.Player.TheVariants.{Winder, Blocker};
-ghost use Rattle.model.specs.Lent.{before};
 ghost use Rattle.game.specs.Searching.{Searchable, wind_from, block_from};
 
 use crate::masks::Masks;
@@ -54,7 +53,7 @@ fn blocker_wins(forced: Forced) -> bool
 #[cycle(block_wind)]
 pub(crate) fn wind(loops: &[u8; GAME_SETS], edges: usize, masks: Masks) -> Forced
     requires { Searchable loops.now edges masks.held masks.free masks.left }
-    ensures { result ≡ wind_from masks.left (before loops) edges masks.held masks.free }
+    ensures { result ≡ wind_from masks.left loops.now edges masks.held masks.free }
 {
     let held = masks.held;
     let free = masks.free;
@@ -90,7 +89,7 @@ pub(crate) fn wind(loops: &[u8; GAME_SETS], edges: usize, masks: Masks) -> Force
 #[cycle(block_wind)]
 pub(crate) fn block(loops: &[u8; GAME_SETS], edges: usize, masks: Masks) -> Forced
     requires { Searchable loops.now edges masks.held masks.free masks.left }
-    ensures { result ≡ block_from masks.left (before loops) edges masks.held masks.free }
+    ensures { result ≡ block_from masks.left loops.now edges masks.held masks.free }
 {
     let hers = masks.held;
     let free = masks.free;

@@ -2,23 +2,23 @@
 ghost use Rattle.std.specs.Prelude.{◌≡◌, eqb};
 
 // A vertex number, from 0.
-#[derive(Drop)]
+#[derive(Clone, Copy)]
 pub struct Vertex(pub u16);
 
 // An edge number, from 0 in list order.
-#[derive(Drop)]
+#[derive(Clone, Copy)]
 pub struct Edge(pub u16);
 
 // A face number of a torus, from 0.
-#[derive(Drop)]
+#[derive(Clone, Copy)]
 pub struct Face(pub u16);
 
 // The number of a word of a packed sheet, from 0.
-#[derive(Drop)]
+#[derive(Clone, Copy)]
 pub struct Word(pub u16);
 
 // A count of half-edges: the support of an edge.
-#[derive(Drop)]
+#[derive(Clone, Copy)]
 pub struct HalfEdges(pub u8);
 
 // The support of a full edge.

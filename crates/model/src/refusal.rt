@@ -4,7 +4,7 @@ ghost use Rattle.model.specs.Refusals.{number_of, place_of};
 use crate::numbers::{Edge, Vertex, Word};
 
 // Why a call refuses, with the place at which the rule is broken. The order is that of the numbers, from 1; no refusal has number 5.
-#[derive(Drop)]
+#[derive(Clone, Copy)]
 pub enum Refusal {
     VertexCount,
     EndCount,

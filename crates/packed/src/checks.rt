@@ -2,7 +2,7 @@
 ghost use Rattle.std.specs.Prelude.{◌≡◌, ◌*◌, ◌≤◌, length};
 ghost use Rattle.std.proofs.Math.Option.{some};
 ghost use Rattle.model.specs.Board.{vertex_limit, edge_limit, without_open};
-ghost use Rattle.model.specs.Lent.{before, board_lent};
+ghost use Rattle.model.specs.Lent.{board_lent};
 ghost use Rattle.model.specs.Refusals.{refusal_of, edges_of, edge_rules};
 ghost use Rattle.model.specs.Sums.{or_else};
 ghost use Rattle.model.specs.WordRefusals.{item_rules, word_rules, pack_refusal, unpack_refusal, lit_refusal};
@@ -27,7 +27,7 @@ fn check_items(
     lost: &[u64],
 ) -> Check
     ensures { test_of result ≡ refusal_of
-        (item_rules vertices edges (before syndrome) (before loss) (before lit) (before lost)) }
+        (item_rules vertices edges syndrome.now loss.now lit.now lost.now) }
 {
     if vertices < 1 || vertices > VERTICES {
         return Check::Failed(Refusal::VertexCount);
@@ -48,7 +48,7 @@ fn check_items(
 fn check_words(vertices: usize, lit: &[u64], edges: usize, lost: &[u64]) -> Check
     requires vertices_le_vertex_limit { (vertices ≤ vertex_limit) × (edges ≤ edge_limit) }
     requires lit_len { (length lit.now ≡ word_count vertices) × (length lost.now ≡ word_count edges) }
-    ensures { test_of result ≡ refusal_of (word_rules vertices (before lit) edges (before lost)) }
+    ensures { test_of result ≡ refusal_of (word_rules vertices lit.now edges lost.now) }
 {
     let in_syndrome = past_last(vertices, lit);
     let in_loss = past_last(edges, lost);
@@ -70,7 +70,7 @@ pub(crate) fn check_pack(
     lit: &[u64],
     lost: &[u64],
 ) -> Check
-    ensures { test_of result ≡ pack_refusal vertices edges (before syndrome) (before loss) (before lit) (before lost) }
+    ensures { test_of result ≡ pack_refusal vertices edges syndrome.now loss.now lit.now lost.now }
 {
     if let Check::Failed(refusal) = check_items(vertices, edges, syndrome, loss, lit, lost) {
         return Check::Failed(refusal);
@@ -87,7 +87,7 @@ pub(crate) fn check_unpack(
     syndrome: &[u8],
     loss: &[u8],
 ) -> Check
-    ensures { test_of result ≡ unpack_refusal vertices edges (before lit) (before lost) (before syndrome) (before loss) }
+    ensures { test_of result ≡ unpack_refusal vertices edges lit.now lost.now syndrome.now loss.now }
 {
     if let Check::Failed(refusal) = check_items(vertices, edges, syndrome, loss, lit, lost) {
         return Check::Failed(refusal);
@@ -97,7 +97,7 @@ pub(crate) fn check_unpack(
 
 // What the lit total and the list of lit vertices are lent; `others` says whether the list has its length.
 pub(crate) fn check_lit(vertices: usize, words: &[u64], others: bool) -> Check
-    ensures { test_of result ≡ lit_refusal vertices (before words) others }
+    ensures { test_of result ≡ lit_refusal vertices words.now others }
 {
     if vertices < 1 || vertices > VERTICES {
         return Check::Failed(Refusal::VertexCount);
@@ -124,7 +124,7 @@ pub(crate) fn screen(
     support: &[u8],
     correction: &[u8],
 ) -> Check
-    ensures { Screened (board_lent vertices ends marks opened) (before lit) (before lost) (before support) (before correction) result }
+    ensures { Screened (board_lent vertices ends.now marks.now opened.now) lit.now lost.now support.now correction.now result }
 {
     let edges = ends.len() / 2;
     let sized = (marks.len() == edges) & (opened.len() == vertices);
@@ -144,7 +144,7 @@ pub(crate) fn screen(
 // A refusal that comes after the tests 4 and 6: theirs, where one of them fails.
 fn after_edges(vertices: usize, ends: &[u16], marks: &[u8], refusal: Refusal) -> Check
     requires { (length ends.now ≤ 2 * edge_limit) × (length marks.now ≡ edges_of ends.now) }
-    ensures { test_of result ≡ or_else (refusal_of (edge_rules (without_open vertices (before ends) (before marks)))) (some refusal) }
+    ensures { test_of result ≡ or_else (refusal_of (edge_rules (without_open vertices ends.now marks.now))) (some refusal) }
 {
     if let Check::Failed(earlier) = check_edges(vertices, ends, marks) {
         return Check::Failed(earlier);

@@ -2,7 +2,7 @@
 // arrays, since all of an array is cleared.
 ghost use Rattle.std.specs.Prelude.{◌≤◌};
 ghost use Rattle.model.specs.Board.{board_of};
-ghost use Rattle.model.specs.Lent.{before, after, board_lent};
+ghost use Rattle.model.specs.Lent.{board_lent};
 ghost use Rattle.model.specs.Outcomes.{Decodes};
 ghost use Rattle.model.specs.Refusals.{edges_of};
 ghost use Rattle.model.specs.Words.{unpacked_sheet};
@@ -30,8 +30,8 @@ pub(crate) fn decode_words(
     correction: &mut [u8],
 ) -> Decoded
     requires { Fitting (board_of vertices ends.now marks.now opened.now) lit.now lost.now }
-    ensures { Decodes (unpacked_sheet (board_lent vertices ends marks opened) (before lit) (before lost))
-        (before support) (before correction) result (after support) (after correction) }
+    ensures { Decodes (unpacked_sheet (board_lent vertices ends.now marks.now opened.now) lit.now lost.now)
+        support.old correction.old result support.new correction.new }
 {
     if vertices > FEW_VERTICES || ends.len() / 2 > FEW_EDGES {
         return decode_many(
@@ -55,8 +55,8 @@ fn decode_many(
     correction: &mut [u8],
 ) -> Decoded
     requires { Fitting (board_of vertices ends.now marks.now opened.now) lit.now lost.now }
-    ensures { Decodes (unpacked_sheet (board_lent vertices ends marks opened) (before lit) (before lost))
-        (before support) (before correction) result (after support) (after correction) }
+    ensures { Decodes (unpacked_sheet (board_lent vertices ends.now marks.now opened.now) lit.now lost.now)
+        support.old correction.old result support.new correction.new }
 {
     let edges = ends.len() / 2;
     let mut syndrome = [0u8; VERTICES];
@@ -88,8 +88,8 @@ fn decode_few(
 ) -> Decoded
     requires fitting { Fitting (board_of vertices ends.now marks.now opened.now) lit.now lost.now }
     requires vertices_bound { (vertices ≤ 64) × (edges_of ends.now ≤ 256) }
-    ensures { Decodes (unpacked_sheet (board_lent vertices ends marks opened) (before lit) (before lost))
-        (before support) (before correction) result (after support) (after correction) }
+    ensures { Decodes (unpacked_sheet (board_lent vertices ends.now marks.now opened.now) lit.now lost.now)
+        support.old correction.old result support.new correction.new }
 {
     let edges = ends.len() / 2;
     let mut syndrome = [0u8; FEW_VERTICES];
@@ -123,8 +123,8 @@ fn unpack_and_decode(
 ) -> Decoded
     requires { Unpackable (board_of vertices ends.now marks.now opened.now) lit.now lost.now
         syndrome.old loss.old }
-    ensures { Decodes (unpacked_sheet (board_lent vertices ends marks opened) (before lit) (before lost))
-        (before support) (before correction) result (after support) (after correction) }
+    ensures { Decodes (unpacked_sheet (board_lent vertices ends.now marks.now opened.now) lit.now lost.now)
+        support.old correction.old result support.new correction.new }
 {
     unpack_in_zeros(lit, syndrome);
     unpack_in_zeros(lost, loss);

@@ -1,5 +1,7 @@
 // Packed sheets: syndromes and losses in 64-bit words, as lab files have them. Item i, a vertex or an edge, is bit i modulo 64 of word i /
 // 64. The words of a syndrome are lent as `lit`, those of the losses as `lost`.
+#![tactic(auto)]
+
 mod checks;
 mod decoding;
 mod listing;
@@ -7,7 +9,7 @@ mod packing;
 mod unpacking;
 mod words;
 
-ghost use Rattle.model.specs.Lent.{before, after, board_lent};
+ghost use Rattle.model.specs.Lent.{board_lent};
 ghost use Rattle.model.specs.WordOutcomes.{Packs, PacksSoundly, Unpacks, UnpacksSoundly, Totals, TotalsSoundly, Lists};
 ghost use Rattle.model.specs.WordOutcomes.{DecodesPacked, DecodesPackedSoundly};
 
@@ -28,9 +30,9 @@ pub fn pack(
     lit: &mut [u64],
     lost: &mut [u64],
 ) -> Packed
-    ensures outcome { Packs vertices edges (before syndrome) (before loss) (before lit) (before lost)
-        result (after lit) (after lost) }
-    ensures sound { PacksSoundly vertices edges (before syndrome) (before loss) result (after lit) (after lost) }
+    ensures outcome { Packs vertices edges syndrome.now loss.now lit.old lost.old
+        result lit.new lost.new }
+    ensures sound { PacksSoundly vertices edges syndrome.now loss.now result lit.new lost.new }
 {
     if let Check::Failed(refusal) = check_pack(vertices, edges, syndrome, loss, lit, lost) {
         return Packed::Refused(refusal);
@@ -52,9 +54,9 @@ pub fn unpack(
     syndrome: &mut [u8],
     loss: &mut [u8],
 ) -> Reading
-    ensures outcome { Unpacks vertices edges (before lit) (before lost) (before syndrome) (before loss)
-        result (after syndrome) (after loss) }
-    ensures sound { UnpacksSoundly vertices edges (before lit) (before lost) result (after syndrome) (after loss) }
+    ensures outcome { Unpacks vertices edges lit.now lost.now syndrome.old loss.old
+        result syndrome.new loss.new }
+    ensures sound { UnpacksSoundly vertices edges lit.now lost.now result syndrome.new loss.new }
 {
     if let Check::Failed(refusal) = check_unpack(vertices, edges, lit, lost, syndrome, loss) {
         return Reading::Refused(refusal);
@@ -66,8 +68,8 @@ pub fn unpack(
 
 // How many vertices of a packed syndrome are lit: the number of set bits in all its words.
 pub fn lit_total(vertices: usize, lit: &[u64]) -> Lit
-    ensures outcome { Totals vertices (before lit) result }
-    ensures sound { TotalsSoundly vertices (before lit) result }
+    ensures outcome { Totals vertices lit.now result }
+    ensures sound { TotalsSoundly vertices lit.now result }
 {
     if let Check::Failed(refusal) = check_lit(vertices, lit, true) {
         return Lit::Refused(refusal);
@@ -78,8 +80,8 @@ pub fn lit_total(vertices: usize, lit: &[u64]) -> Lit
 // The lit vertices of a packed syndrome, rising, at the front of a list with an entry for each vertex: their total. The rest of the list
 // stays; a refusal writes nothing.
 pub fn list_lit(vertices: usize, lit: &[u64], list: &mut [u16]) -> Lit
-    ensures outcome { Lists vertices (before lit) (before list) result (after list) }
-    ensures sound { TotalsSoundly vertices (before lit) result }
+    ensures outcome { Lists vertices lit.now list.old result list.new }
+    ensures sound { TotalsSoundly vertices lit.now result }
 {
     let sized = list.len() == vertices;
     if let Check::Failed(refusal) = check_lit(vertices, lit, sized) {
@@ -99,10 +101,10 @@ pub fn decode_packed(
     support: &mut [u8],
     correction: &mut [u8],
 ) -> Decoded
-    ensures key { DecodesPacked (board_lent vertices ends marks opened) (before lit) (before lost)
-        (before support) (before correction) result (after support) (after correction) }
-    ensures sound { DecodesPackedSoundly (board_lent vertices ends marks opened) (before lit) (before lost)
-        (before support) (before correction) result (after support) (after correction) }
+    ensures key { DecodesPacked (board_lent vertices ends.now marks.now opened.now) lit.now lost.now
+        support.old correction.old result support.new correction.new }
+    ensures sound { DecodesPackedSoundly (board_lent vertices ends.now marks.now opened.now) lit.now lost.now
+        support.old correction.old result support.new correction.new }
 {
     if let Check::Failed(refusal) = screen(
         vertices, ends, marks, opened, lit, lost, support, correction,

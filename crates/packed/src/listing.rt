@@ -1,7 +1,6 @@
 // The lit vertices of a packed syndrome: how many there are, and which.
 ghost use Rattle.std.specs.Prelude.{◌≡◌, ◌+◌, ◌*◌, ◌≤◌, length};
 ghost use Rattle.model.specs.Board.{vertex_limit};
-ghost use Rattle.model.specs.Lent.{before, after};
 ghost use Rattle.model.specs.Words.{lit_total};
 ghost use Rattle.packed.specs.Listing.{bits_from, items_in};
 ghost use Rattle.packed.specs.Storing.{Stored};
@@ -11,7 +10,7 @@ use crate::words::WORD;
 // The number of set bits in all words.
 pub(crate) fn set_bits(words: &[u64]) -> usize
     requires { length words.now ≤ vertex_limit }
-    ensures { result ≡ lit_total (before words) }
+    ensures { result ≡ lit_total words.now }
 {
     let mut total = 0;
     let mut w = 0;
@@ -26,7 +25,7 @@ pub(crate) fn set_bits(words: &[u64]) -> usize
 // `from` on; `first` is the vertex of bit 0.
 fn list_word(word: u64, first: usize, list: &mut [u16], from: usize) -> usize
     requires { (first ≤ vertex_limit) × (from + length (bits_from 64 first word) ≤ length list.old) }
-    ensures { Stored (bits_from 64 first word) (before list) from (after list) result }
+    ensures { Stored (bits_from 64 first word) list.old from list.new result }
 {
     let mut rest = word;
     let mut at = from;
@@ -43,7 +42,7 @@ fn list_word(word: u64, first: usize, list: &mut [u16], from: usize) -> usize
 // The vertices of all words, to the front of the list.
 pub(crate) fn list_bits(words: &[u64], list: &mut [u16]) -> usize
     requires { (64 * length words.now ≤ vertex_limit) × (lit_total words.now ≤ length list.old) }
-    ensures { Stored (items_in (length (before words)) (before words)) (before list) 0 (after list) result }
+    ensures { Stored (items_in (length words.now) words.now) list.old 0 list.new result }
 {
     let mut listed = 0;
     let mut w = 0;

@@ -1,7 +1,6 @@
 // Bytes of items, packed into words: item i is bit i modulo 64 of word i / 64.
 ghost use Rattle.std.specs.Prelude.{◌≡◌, ◌*◌, ◌<◌, length};
 ghost use Rattle.model.specs.Board.{ValidBytes};
-ghost use Rattle.model.specs.Lent.{before, after};
 ghost use Rattle.model.specs.Sums.{ones};
 ghost use Rattle.model.specs.Words.{word_count, number_with, items_of, words_of};
 
@@ -10,7 +9,7 @@ use crate::words::{WORD, items_in};
 // Word w of the items: those from 64w on, at most 64, the last one first.
 fn packed_word(bytes: &[u8], w: usize) -> u64
     requires { ValidBytes (length bytes.now) bytes.now × (64 * w < length bytes.now) }
-    ensures { result ≡ number_with 64 (items_of (length (before bytes)) (ones (before bytes)) w) }
+    ensures { result ≡ number_with 64 (items_of (length bytes.now) (ones bytes.now) w) }
 {
     let first = WORD * w;
     let mut k = items_in(bytes.len(), w);
@@ -25,7 +24,7 @@ fn packed_word(bytes: &[u8], w: usize) -> u64
 // All words in turn.
 pub(crate) fn pack_items(bytes: &[u8], words: &mut [u64])
     requires { ValidBytes (length bytes.now) bytes.now × (length words.old ≡ word_count (length bytes.now)) }
-    ensures { after words ≡ words_of (length (before bytes)) (ones (before bytes)) }
+    ensures { words.new ≡ words_of (length bytes.now) (ones bytes.now) }
 {
     let mut w = 0;
     while w < words.len() {

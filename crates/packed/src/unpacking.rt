@@ -1,6 +1,5 @@
 // A byte for each item of packed words.
 ghost use Rattle.std.specs.Prelude.{◌≡◌, ◌*◌, ◌<◌, length, replicate};
-ghost use Rattle.model.specs.Lent.{before, after};
 ghost use Rattle.model.specs.Words.{word_count, bytes_in};
 ghost use Rattle.packed.specs.Unpacking.{WordUnpacked, ZerosFrom};
 
@@ -9,7 +8,7 @@ use crate::words::{WORD, items_in};
 // The bytes of the items of word w: 64, or as many as are left.
 fn unpack_word(word: u64, w: usize, bytes: &mut [u8])
     requires { 64 * w < length bytes.old }
-    ensures { WordUnpacked word w (before bytes) (after bytes) }
+    ensures { WordUnpacked word w bytes.old bytes.new }
 {
     let first = WORD * w;
     let count = items_in(bytes.len(), w);
@@ -23,7 +22,7 @@ fn unpack_word(word: u64, w: usize, bytes: &mut [u8])
 // The bytes of all items.
 pub(crate) fn unpack_items(words: &[u64], bytes: &mut [u8])
     requires { length words.now ≡ word_count (length bytes.old) }
-    ensures { after bytes ≡ bytes_in (length (before bytes)) (before words) }
+    ensures { bytes.new ≡ bytes_in (length bytes.old) words.now }
 {
     let mut w = 0;
     while w < words.len() {
@@ -35,7 +34,7 @@ pub(crate) fn unpack_items(words: &[u64], bytes: &mut [u8])
 // The same of word w in bytes that are 0 from its items on: without a set bit nothing is to be done.
 fn unpack_word_in_zeros(word: u64, w: usize, bytes: &mut [u8])
     requires { (64 * w < length bytes.old) × ZerosFrom w bytes.old }
-    ensures { WordUnpacked word w (before bytes) (after bytes) }
+    ensures { WordUnpacked word w bytes.old bytes.new }
 {
     if word == 0 {
         return;
@@ -47,7 +46,7 @@ fn unpack_word_in_zeros(word: u64, w: usize, bytes: &mut [u8])
 pub(crate) fn unpack_in_zeros(words: &[u64], bytes: &mut [u8])
     requires words_len { length words.now ≡ word_count (length bytes.old) }
     requires bytes_value { bytes.old ≡ replicate (length bytes.old) 0 }
-    ensures { after bytes ≡ bytes_in (length (before bytes)) (before words) }
+    ensures { bytes.new ≡ bytes_in (length bytes.old) words.now }
 {
     let mut w = 0;
     while w < words.len() {

@@ -1,7 +1,6 @@
 // The words of packed items: how many there are, how many items a word has, and whether a bit past the last item is set.
 ghost use Rattle.std.specs.Prelude.{◌≡◌, ◌*◌, ◌<◌, ◌≤◌, length};
 ghost use Rattle.model.specs.Board.{edge_limit};
-ghost use Rattle.model.specs.Lent.{before};
 ghost use Rattle.model.specs.Sums.{first_up_to};
 ghost use Rattle.model.specs.Words.{word_count, past_last};
 ghost use Rattle.packed.specs.Found.{word_found};
@@ -13,7 +12,7 @@ use model::numbers::Word;
 pub const WORD: usize = 64;
 
 // What a look for bits past the last item finds: the word that has one, or none.
-#[derive(Drop)]
+#[derive(Clone, Copy)]
 pub enum FoundWord {
     At(Word),
     Nothing,
@@ -41,7 +40,7 @@ pub(crate) fn items_in(items: usize, w: usize) -> usize
 // The first word with a bit past the last item. Only the last word can have one, where the items don't fill it.
 pub(crate) fn past_last(items: usize, words: &[u64]) -> FoundWord
     requires { (items ≤ edge_limit) × (length words.now ≡ word_count items) }
-    ensures { word_found result ≡ first_up_to (length (before words)) (past_last items (before words)) }
+    ensures { word_found result ≡ first_up_to (length words.now) (past_last items words.now) }
 {
     let last = items / WORD;
     let rest = items % WORD;

@@ -1,11 +1,12 @@
 // The connected parts of the whole board, and the vertex of number 10: the smallest of all parts that hold an odd number of syndrome
 // vertices and no open vertex.
+#![tactic(auto)]
+
 ghost use Rattle.std.specs.Prelude.{◌≡◌, length};
 ghost use Rattle.union_find.specs.Packed.{parents_of};
 ghost use Rattle.union_find.specs.Trees.{Rooted};
 ghost use Rattle.model.specs.Board.{EndsWithin, unmarked};
 ghost use Rattle.model.specs.Decoding.{smallest_odd};
-ghost use Rattle.model.specs.Lent.{before, after};
 ghost use Rattle.model.specs.Refusals.{edges_of};
 ghost use Rattle.model.specs.Sums.{first_up_to, ones};
 ghost use Rattle.board.specs.Checks.{vertex_found};
@@ -23,7 +24,7 @@ use union_find::{alone, join, root_of};
 // The parts of the whole board as trees: every vertex alone, then the ends of every edge joined.
 fn connect(vertices: usize, ends: &[u16]) -> [u16; VERTICES]
     requires { EndsWithin vertices (edges_of ends.now) ends.now }
-    ensures { Connects vertices (before ends) (parents_of result) }
+    ensures { Connects vertices ends.now (parents_of result) }
 {
     let mut tree = [0u16; VERTICES];
     alone(vertices, &mut tree);
@@ -43,7 +44,7 @@ fn connect(vertices: usize, ends: &[u16]) -> [u16; VERTICES]
 // For each root a 1 where its tree holds an odd number of syndrome vertices, else a 0.
 fn parities(tree: &[u16; VERTICES], syndrome: &[u8]) -> [u8; VERTICES]
     requires { Rooted (length syndrome.now) (parents_of tree.now) }
-    ensures { Parities (length (before syndrome)) (parents_of (before tree)) (before syndrome) result }
+    ensures { Parities (length syndrome.now) (parents_of tree.now) syndrome.now result }
 {
     let mut odd = [0u8; VERTICES];
     let mut v = 0;
@@ -62,7 +63,7 @@ fn parities(tree: &[u16; VERTICES], syndrome: &[u8]) -> [u8; VERTICES]
 // A part with an open vertex is never odd: the entry of its root becomes 0.
 fn clear_open(tree: &[u16; VERTICES], opened: &[u8], odd: &mut [u8; VERTICES])
     requires { Marked (length opened.now) (parents_of tree.now) odd.old }
-    ensures { Cleared (length (before opened)) (parents_of (before tree)) (before opened) (before odd) (after odd) }
+    ensures { Cleared (length opened.now) (parents_of tree.now) opened.now odd.old odd.new }
 {
     let mut v = 0;
     while v < opened.len() {
@@ -78,7 +79,7 @@ fn clear_open(tree: &[u16; VERTICES], opened: &[u8], odd: &mut [u8; VERTICES])
 // The smallest vertex whose root has a 1. Roots are in no order, so the vertices are gone through and not the roots.
 fn first_marked(vertices: usize, tree: &[u16; VERTICES], odd: &[u8; VERTICES]) -> FoundVertex
     requires { Marked vertices (parents_of tree.now) odd.now }
-    ensures { vertex_found result ≡ first_up_to vertices (marked (parents_of (before tree)) (before odd)) }
+    ensures { vertex_found result ≡ first_up_to vertices (marked (parents_of tree.now) odd.now) }
 {
     let mut next = 0;
     while next < vertices {
@@ -96,8 +97,8 @@ fn first_marked(vertices: usize, tree: &[u16; VERTICES], odd: &[u8; VERTICES]) -
 // The smallest vertex of all odd parts of the whole board. Vertices are gone through only where some root has a 1.
 pub fn first_odd(vertices: usize, ends: &[u16], opened: &[u8], syndrome: &[u8]) -> FoundVertex
     requires { Searchable vertices ends.now opened.now syndrome.now }
-    ensures { vertex_found result ≡ smallest_odd (unmarked vertices (edges_of (before ends)) (before ends) (before opened))
-        (ones (before syndrome)) }
+    ensures { vertex_found result ≡ smallest_odd (unmarked vertices (edges_of ends.now) ends.now opened.now)
+        (ones syndrome.now) }
 {
     let tree = connect(vertices, ends);
     let mut odd = parities(&tree, syndrome);

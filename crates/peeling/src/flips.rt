@@ -1,6 +1,5 @@
 // Parities below each vertex of a tree: how many flipped vertices, an odd or an even number, hang at it or below it.
 ghost use Rattle.std.specs.Prelude.{length};
-ghost use Rattle.model.specs.Lent.{before, after};
 ghost use Rattle.model.specs.Sums.{ones};
 ghost use Rattle.union_find.specs.Packed.{parents_of};
 ghost use Rattle.peeling.specs.TreeFlips.{Flippable, Flipped, AllFlippable, AllFlipped};
@@ -12,7 +11,7 @@ use union_find::ROOT;
 // Vertex v flips: every vertex on the way from v up to its root has another parity below it. The entry of a root stays.
 pub fn flip(tree: &[u16; VERTICES], odd: &mut [bool; VERTICES], v: Vertex)
     requires { Flippable (parents_of tree.now) odd.old v.0 }
-    ensures { Flipped (parents_of (before tree)) v.0 (before odd) (after odd) }
+    ensures { Flipped (parents_of tree.now) v.0 odd.old odd.new }
 {
     let mut w = v.0;
     loop {
@@ -28,7 +27,7 @@ pub fn flip(tree: &[u16; VERTICES], odd: &mut [bool; VERTICES], v: Vertex)
 // Every odd end flips.
 pub fn flip_ends(lit: &[u8], tree: &[u16; VERTICES], odd: &mut [bool; VERTICES])
     requires { AllFlippable (length lit.now) (parents_of tree.now) odd.old }
-    ensures { AllFlipped (parents_of (before tree)) (length (before lit)) (ones (before lit)) (before odd) (after odd) }
+    ensures { AllFlipped (parents_of tree.now) (length lit.now) (ones lit.now) odd.old odd.new }
 {
     for v in 0..lit.len() {
         if lit[v] == 1 {

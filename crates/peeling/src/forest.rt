@@ -1,6 +1,5 @@
 // The spanning forest of the full edges, as a union-find makes it, and the list of its edges: an edge whose ends are already joined is
 // passed over, any other hangs one tree under the root of another and is listed.
-ghost use Rattle.model.specs.Lent.{before, after};
 ghost use Rattle.union_find.specs.Packed.{parents_of};
 ghost use Rattle.peeling.specs.Links.{Takeable, Takes, SpanRoom, Spans};
 
@@ -20,8 +19,8 @@ fn take(
     edge: Edge,
 ) -> usize
     requires { Takeable ends.now tree.old count edge.0 }
-    ensures { Takes (before ends) (before tree) (before taken) (before links) count edge.0 result
-        (after tree) (after taken) (after links) }
+    ensures { Takes ends.now tree.old taken.old links.old count edge.0 result
+        tree.new taken.new links.new }
 {
     let a = first_end(ends, edge);
     let b = second_end(ends, edge);
@@ -47,7 +46,7 @@ pub fn span(
     links: &mut [u16; VERTICES],
 ) -> usize
     requires { SpanRoom vertices ends.now support.now tree.old taken.old links.old }
-    ensures { Spans vertices (before ends) (before support) result (parents_of (after tree)) (after taken) (after links) }
+    ensures { Spans vertices ends.now support.now result (parents_of tree.new) taken.new links.new }
 {
     union_find::alone(vertices, tree);
     let edges = support.len();

@@ -1,8 +1,9 @@
 // Peeling: the spanning forest of the full edges, and its one subset that has given odd ends.
+#![tactic(auto)]
+
 mod flips;
 mod forest;
 
-ghost use Rattle.model.specs.Lent.{before, after};
 ghost use Rattle.union_find.specs.Packed.{parents_of};
 ghost use Rattle.peeling.specs.Peeling.{Cuttable, Cuts, Clears, Peelable, Peels};
 
@@ -21,7 +22,7 @@ fn cut(
     link: Vertex,
 ) -> usize
     requires { Cuttable ends.now (parents_of tree.now) odd.old correction.old edge.0 link.0 }
-    ensures { Cuts (before ends) (parents_of (before tree)) (before odd) (before correction) edge.0 link.0 result (after odd) (after correction) }
+    ensures { Cuts ends.now (parents_of tree.now) odd.old correction.old edge.0 link.0 result odd.new correction.new }
 {
     if !odd[link.0 as usize] {
         return 0;
@@ -37,7 +38,7 @@ fn cut(
 
 // Every byte is 0: no edge is in the correction.
 pub fn clear(correction: &mut [u8])
-    ensures { Clears (before correction) (after correction) }
+    ensures { Clears correction.old correction.new }
 {
     for e in 0..correction.len() {
         correction[e] = 0;
@@ -55,7 +56,7 @@ pub fn peel(
     correction: &mut [u8],
 ) -> usize
     requires { Peelable vertices ends.now support.now lit.now correction.old }
-    ensures { Peels vertices (before ends) (before support) (before lit) result (after correction) }
+    ensures { Peels vertices ends.now support.now lit.now result correction.new }
 {
     let mut tree = [0u16; VERTICES];
     let mut taken = [0u16; VERTICES];

@@ -1,8 +1,9 @@
 // The planar board of side L, whose columns 0 and L are open: its builder.
+#![tactic(auto)]
+
 mod cells;
 
 ghost use Rattle.std.specs.Prelude.{◌≡◌, ◌*◌, length};
-ghost use Rattle.model.specs.Lent.{before, after};
 ghost use Rattle.model.specs.Planar.{planar_vertices, planar_edges, planar_ends, planar_marks, planar_opens};
 ghost use Rattle.model.specs.Outcomes.{BuildsPlanar};
 ghost use Rattle.planar.specs.Sides.{SideWithin};
@@ -15,7 +16,7 @@ use model::refusal::Refusal;
 
 // The planar board of side L: the vertex count, with all ends, marks and open bytes filled in; or a refusal, with nothing written.
 pub fn planar(side: usize, ends: &mut [u16], marks: &mut [u8], opened: &mut [u8]) -> Built
-    ensures { BuildsPlanar side (before ends) (before marks) (before opened) result (after ends) (after marks) (after opened) }
+    ensures { BuildsPlanar side ends.old marks.old opened.old result ends.new marks.new opened.new }
 {
     if side < LEAST_PLANAR || side > LARGEST_PLANAR {
         return Built::Refused(Refusal::PlanarSide(side));
@@ -35,7 +36,7 @@ pub fn planar(side: usize, ends: &mut [u16], marks: &mut [u8], opened: &mut [u8]
 // Both ends of each edge in turn.
 fn fill_ends(side: usize, ends: &mut [u16])
     requires { SideWithin side × (length ends.old ≡ 2 * planar_edges side) }
-    ensures { after ends ≡ planar_ends side }
+    ensures { ends.new ≡ planar_ends side }
 {
     let edges = ends.len() / 2;
     let mut e = 0;
@@ -55,7 +56,7 @@ fn fill_ends(side: usize, ends: &mut [u16])
 // The marks of these edges, in the same order.
 fn fill_marks(side: usize, marks: &mut [u8])
     requires { SideWithin side × (length marks.old ≡ planar_edges side) }
-    ensures { after marks ≡ planar_marks side }
+    ensures { marks.new ≡ planar_marks side }
 {
     let mut e = 0;
     while e < marks.len() {
@@ -68,7 +69,7 @@ fn fill_marks(side: usize, marks: &mut [u8])
 // The open byte of each vertex in turn.
 fn fill_open(side: usize, opened: &mut [u8])
     requires { SideWithin side × (length opened.old ≡ planar_vertices side) }
-    ensures { after opened ≡ planar_opens side }
+    ensures { opened.new ≡ planar_opens side }
 {
     let mut v = 0;
     while v < opened.len() {

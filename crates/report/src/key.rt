@@ -1,5 +1,5 @@
 // The report of a sheet that was read: its key, or number 10.
-ghost use Rattle.model.specs.Lent.{before, after, board_lent, sheet_lent};
+ghost use Rattle.model.specs.Lent.{board_lent, sheet_lent};
 ghost use Rattle.model.specs.Board.{board_of, sheet_of, ValidSheet};
 ghost use Rattle.model.specs.Report.{sheet_report, InFront};
 ghost use Rattle.report.specs.ReportLines.{Room, Keyed, Decodable, key_lines};
@@ -27,7 +27,7 @@ fn put_key(
     out: &mut [u8],
 ) -> usize
     requires { Keyed (board_of vertices ends.now marks.now opened.now) growths correction.now shown.old out.old }
-    ensures { InFront (key_lines (board_lent vertices ends marks opened) growths (before correction)) (before out) result (after out) }
+    ensures { InFront (key_lines (board_lent vertices ends.now marks.now opened.now) growths correction.now) out.old result out.new }
 {
     let correction_at = put_line(out, 0, LETTER_G, growths);
     let distance_at = put_listed(out, correction_at, LETTER_C, correction);
@@ -52,7 +52,7 @@ fn put_decoded(
 ) -> usize
     requires { Decodable (sheet_of (board_of vertices ends.now marks.now opened.now) syndrome.now loss.now)
         support.old correction.old out.old }
-    ensures { InFront (sheet_report (sheet_lent vertices ends marks opened syndrome loss)) (before out) result (after out) }
+    ensures { InFront (sheet_report (sheet_lent vertices ends.now marks.now opened.now syndrome.now loss.now)) out.old result out.new }
 {
     match decode(
         vertices, ends, marks, opened, syndrome, loss, support, correction,
@@ -76,7 +76,7 @@ pub(crate) fn put_sheet(
 ) -> usize
     requires { ValidSheet (sheet_of (board_of vertices ends.now marks.now opened.now) syndrome.now loss.now)
         × Room out.old }
-    ensures { InFront (sheet_report (sheet_lent vertices ends marks opened syndrome loss)) (before out) result (after out) }
+    ensures { InFront (sheet_report (sheet_lent vertices ends.now marks.now opened.now syndrome.now loss.now)) out.old result out.new }
 {
     let edges = marks.len();
     let mut support = [0u8; EDGES];

@@ -1,8 +1,9 @@
 // The report of a text, as the decode program prints it: its key, or its refusal.
+#![tactic(auto)]
+
 mod key;
 mod lines;
 
-ghost use Rattle.model.specs.Lent.{before, after};
 ghost use Rattle.model.specs.Report.{report_of, InFront};
 
 use crate::key::put_sheet;
@@ -16,7 +17,7 @@ pub const LONGEST: usize = 7 * (EDGES + 2);
 
 // Puts the report of a text in front of the array, and answers with its length.
 pub fn report(text: &[u8], out: &mut [u8; LONGEST]) -> usize
-    ensures { InFront (report_of (before text)) (before out) result (after out) }
+    ensures { InFront (report_of text.now) out.old result out.new }
 {
     let mut ends = [0u16; ENDS];
     let mut marks = [0u8; EDGES];

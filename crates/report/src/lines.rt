@@ -1,7 +1,6 @@
 // The lines that are not of one number: a refusal's, and the distance's where there may be none.
 ghost use Rattle.std.specs.Prelude.{◌+◌, ◌≤◌, length};
 ghost use Rattle.std.proofs.Math.Option.{none};
-ghost use Rattle.model.specs.Lent.{before, after};
 ghost use Rattle.model.specs.Report.{refusal_line, distance_line, InFront};
 ghost use Rattle.text.specs.Printing.{Puts};
 ghost use Rattle.report.specs.ReportLines.{fewest_in};
@@ -21,7 +20,7 @@ const DASH: u8 = 45;
 // and the newline.
 pub(crate) fn put_refusal(out: &mut [u8], refusal: Refusal) -> usize
     requires { 27 ≤ length out.old }
-    ensures { InFront (refusal_line refusal) (before out) result (after out) }
+    ensures { InFront (refusal_line refusal) out.old result out.new }
 {
     let number = number(refusal) as usize;
     let place = place(refusal);
@@ -34,7 +33,7 @@ pub(crate) fn put_refusal(out: &mut [u8], refusal: Refusal) -> usize
 // Puts the line of a board without a winding loop.
 fn put_dash(out: &mut [u8], at: usize) -> usize
     requires { at + 4 ≤ length out.old }
-    ensures { Puts (distance_line none) (before out) at result (after out) }
+    ensures { Puts (distance_line none) out.old at result out.new }
 {
     let tab_at = put_byte(out, at, LETTER_D);
     let dash_at = put_byte(out, tab_at, TAB);
@@ -45,7 +44,7 @@ fn put_dash(out: &mut [u8], at: usize) -> usize
 // Puts the line of a distance. The board is valid, so that what is not a distance is none.
 pub(crate) fn put_distance(out: &mut [u8], at: usize, distance: Distance) -> usize
     requires { at + length (distance_line (fewest_in distance)) ≤ length out.old }
-    ensures { Puts (distance_line (fewest_in distance)) (before out) at result (after out) }
+    ensures { Puts (distance_line (fewest_in distance)) out.old at result out.new }
 {
     let Distance::Fewest(fewest) = distance else {
         return put_dash(out, at);

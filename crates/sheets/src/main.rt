@@ -1,4 +1,6 @@
 // Decodes and judges the marked sheets and others, and prints a line for each.
+#![tactic(auto)]
+
 mod boards;
 mod decoding;
 mod output;

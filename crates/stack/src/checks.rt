@@ -1,6 +1,5 @@
 // The tests of what the stack's builder is lent: 11, 15, 3 and 7, in this order.
 ghost use Rattle.std.specs.Prelude.{◌≡◌};
-ghost use Rattle.model.specs.Lent.{before};
 ghost use Rattle.model.specs.Refusals.{refusal_of, layer_rules, reading_rules, stack_refusal};
 ghost use Rattle.board.specs.Checks.{test_of};
 ghost use Rattle.stack.specs.Layers.{StackWithin};
@@ -35,7 +34,7 @@ fn check_readings(
 ) -> Check
     requires { StackWithin side rounds }
     ensures { test_of result ≡ refusal_of
-        (reading_rules side rounds (before readings) (before ends) (before marks) (before syndrome)) }
+        (reading_rules side rounds readings.now ends.now marks.now syndrome.now) }
 {
     let layer = side * side;
     let vertices = rounds * layer;
@@ -60,7 +59,7 @@ pub(crate) fn check_stack(
     marks: &[u8],
     syndrome: &[u8],
 ) -> Check
-    ensures { test_of result ≡ stack_refusal side rounds (before readings) (before ends) (before marks) (before syndrome) }
+    ensures { test_of result ≡ stack_refusal side rounds readings.now ends.now marks.now syndrome.now }
 {
     if let Check::Failed(refusal) = check_layers(side, rounds) {
         return Check::Failed(refusal);

@@ -1,7 +1,6 @@
 // The ends of the edges in the layers: those of the torus, shifted by its layer's first vertex.
 ghost use Rattle.std.specs.Prelude.{◌≡◌, ◌*◌, ◌/◌, ◌%◌, ◌<◌, length};
 ghost use Rattle.model.specs.Board.{vertex_limit};
-ghost use Rattle.model.specs.Lent.{after};
 ghost use Rattle.model.specs.Stack.{layer_edges, flat_edges, stack_edges, flat, upper_end, stack_end};
 ghost use Rattle.torus.specs.Filling.{Filled};
 ghost use Rattle.torus.specs.Sides.{SideWithin};
@@ -34,8 +33,8 @@ fn other_end(side: usize, edge: Edge) -> Vertex
 // Both ends of each edge of each layer in turn.
 pub(crate) fn fill_flat(side: usize, rounds: usize, ends: &mut [u16])
     requires { StackWithin side rounds × (length ends.old ≡ 2 * stack_edges side rounds) }
-    ensures { (length (after ends) ≡ 2 * stack_edges side rounds)
-        × Filled (stack_end side rounds) (2 * flat_edges side rounds) (after ends) }
+    ensures { (length ends.new ≡ 2 * stack_edges side rounds)
+        × Filled (stack_end side rounds) (2 * flat_edges side rounds) ends.new }
 {
     let vertices = rounds * (side * side);
     let edges = 2 * vertices;

@@ -1,4 +1,6 @@
 // The torus of side L read in R rounds, as one board of R layers, and the syndrome that its readings make: the builder.
+#![tactic(auto)]
+
 mod checks;
 mod flat;
 mod marks;
@@ -6,7 +8,6 @@ mod syndrome;
 mod upright;
 
 ghost use Rattle.std.specs.Prelude.{◌≡◌, ◌*◌, length};
-ghost use Rattle.model.specs.Lent.{before, after};
 ghost use Rattle.model.specs.Stack.{stack_vertices, stack_edges, stack_ends, stack_marks, stack_syndrome};
 ghost use Rattle.model.specs.StackOutcomes.{BuildsStack, StacksSoundly};
 ghost use Rattle.stack.specs.Layers.{StackWithin};
@@ -30,9 +31,9 @@ pub fn stack(
     marks: &mut [u8],
     syndrome: &mut [u8],
 ) -> Built
-    ensures outcome { BuildsStack side rounds (before readings) (before ends) (before marks) (before syndrome)
-        result (after ends) (after marks) (after syndrome) }
-    ensures sound { StacksSoundly side rounds (before readings) result (after ends) (after marks) (after syndrome) }
+    ensures outcome { BuildsStack side rounds readings.now ends.old marks.old syndrome.old
+        result ends.new marks.new syndrome.new }
+    ensures sound { StacksSoundly side rounds readings.now result ends.new marks.new syndrome.new }
 {
     if let Check::Failed(refusal) = check_stack(side, rounds, readings, ends, marks, syndrome) {
         return Built::Refused(refusal);
@@ -50,9 +51,9 @@ fn fill(
     syndrome: &mut [u8],
 ) -> usize
     requires { ForStack side rounds readings.now ends.old marks.old syndrome.old }
-    ensures { (result ≡ stack_vertices side rounds) × (after ends ≡ stack_ends side rounds)
-        × (after marks ≡ stack_marks side rounds)
-        × (after syndrome ≡ stack_syndrome side rounds (before readings)) }
+    ensures { (result ≡ stack_vertices side rounds) × (ends.new ≡ stack_ends side rounds)
+        × (marks.new ≡ stack_marks side rounds)
+        × (syndrome.new ≡ stack_syndrome side rounds readings.now) }
 {
     let layer = side * side;
     let vertices = rounds * layer;
@@ -65,7 +66,7 @@ fn fill(
 // The ends of all edges: first of those in the layers, then of those between layers.
 fn fill_ends(side: usize, rounds: usize, ends: &mut [u16])
     requires { StackWithin side rounds × (length ends.old ≡ 2 * stack_edges side rounds) }
-    ensures { after ends ≡ stack_ends side rounds }
+    ensures { ends.new ≡ stack_ends side rounds }
 {
     fill_flat(side, rounds, ends);
     fill_upright(side, rounds, ends);

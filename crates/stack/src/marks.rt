@@ -1,6 +1,5 @@
 // The marks of the stack's edges: in each layer those of the torus, and 0 between layers.
 ghost use Rattle.std.specs.Prelude.{◌≡◌, length};
-ghost use Rattle.model.specs.Lent.{after};
 ghost use Rattle.model.specs.Stack.{stack_edges, stack_mark, stack_marks};
 ghost use Rattle.stack.specs.Layers.{StackWithin};
 
@@ -30,7 +29,7 @@ fn mark_of(side: usize, rounds: usize, edge: Edge) -> u8
 // The marks of all edges in turn.
 pub(crate) fn fill_marks(side: usize, rounds: usize, marks: &mut [u8])
     requires { StackWithin side rounds × (length marks.old ≡ stack_edges side rounds) }
-    ensures { after marks ≡ stack_marks side rounds }
+    ensures { marks.new ≡ stack_marks side rounds }
 {
     let mut e = 0;
     while e < marks.len() {

@@ -1,6 +1,5 @@
 // The ends of the edges between layers.
 ghost use Rattle.std.specs.Prelude.{◌≡◌, ◌*◌, length};
-ghost use Rattle.model.specs.Lent.{after};
 ghost use Rattle.model.specs.Stack.{flat_edges, stack_edges, stack_end, stack_ends};
 ghost use Rattle.torus.specs.Filling.{Filled};
 ghost use Rattle.stack.specs.Layers.{StackWithin};
@@ -9,7 +8,7 @@ ghost use Rattle.stack.specs.Layers.{StackWithin};
 pub(crate) fn fill_upright(side: usize, rounds: usize, ends: &mut [u16])
     requires { StackWithin side rounds × (length ends.old ≡ 2 * stack_edges side rounds)
         × Filled (stack_end side rounds) (2 * flat_edges side rounds) ends.old }
-    ensures { after ends ≡ stack_ends side rounds }
+    ensures { ends.new ≡ stack_ends side rounds }
 {
     let layer = side * side;
     let vertices = rounds * layer;

@@ -2,11 +2,13 @@
 // and `outcome` that what a caller takes from it is the call's answer, with the final contents of every buffer; of decoding, in rounds too,
 // of the verdict, with faces too, of the game, of traps, of the stack and of all calls on packed sheets, `sound` says what may be relied
 // on, of the same answer. The words of a packed syndrome are lent as `lit`, those of packed losses as `lost`.
+#![tactic(auto)]
+
 mod packing;
 mod trapping;
 
 ghost use Rattle.std.specs.Prelude.{◌≡◌};
-ghost use Rattle.model.specs.Lent.{before, after, board_lent, sheet_lent};
+ghost use Rattle.model.specs.Lent.{board_lent, sheet_lent};
 ghost use Rattle.model.specs.Outcomes.{decode_answer, Decodes, DecodesSoundly, verdict_answer, Judges, JudgesSoundly};
 ghost use Rattle.model.specs.Outcomes.{distance_answer, Measures, torus_answer, Builds, planar_answer, BuildsPlanar};
 ghost use Rattle.model.specs.GameOutcomes.{game_answer, Plays, PlaysSoundly};
@@ -38,11 +40,11 @@ pub extern "C" fn surface_decode(
     correction: &mut [u8],
 ) -> u64
     ensures number { result ≡ packed_decoded
-        (decode_answer (sheet_lent vertices ends marks opened syndrome loss) (before support) (before correction)) }
-    ensures outcome { Decodes (sheet_lent vertices ends marks opened syndrome loss) (before support) (before correction)
-        (unpacked_decoded result) (after support) (after correction) }
-    ensures sound { DecodesSoundly (sheet_lent vertices ends marks opened syndrome loss) (before support) (before correction)
-        (unpacked_decoded result) (after correction) }
+        (decode_answer (sheet_lent vertices ends.now marks.now opened.now syndrome.now loss.now) support.old correction.old) }
+    ensures outcome { Decodes (sheet_lent vertices ends.now marks.now opened.now syndrome.now loss.now) support.old correction.old
+        (unpacked_decoded result) support.new correction.new }
+    ensures sound { DecodesSoundly (sheet_lent vertices ends.now marks.now opened.now syndrome.now loss.now) support.old correction.old
+        (unpacked_decoded result) correction.new }
 {
     pack_decoded(decoder::decode(
         vertices, ends, marks, opened, syndrome, loss, support, correction,
@@ -62,11 +64,11 @@ pub extern "C" fn surface_decode_rounds(
     correction: &mut [u8],
 ) -> u64
     ensures number { result ≡ packed_rounds
-        (rounds_answer (sheet_lent vertices ends marks opened syndrome loss) (before support) (before correction)) }
-    ensures outcome { DecodesInRounds (sheet_lent vertices ends marks opened syndrome loss) (before support) (before correction)
-        (unpacked_rounds result) (after support) (after correction) }
-    ensures sound { RoundsSoundly (sheet_lent vertices ends marks opened syndrome loss) (before support) (before correction)
-        (unpacked_rounds result) (after support) (after correction) }
+        (rounds_answer (sheet_lent vertices ends.now marks.now opened.now syndrome.now loss.now) support.old correction.old) }
+    ensures outcome { DecodesInRounds (sheet_lent vertices ends.now marks.now opened.now syndrome.now loss.now) support.old correction.old
+        (unpacked_rounds result) support.new correction.new }
+    ensures sound { RoundsSoundly (sheet_lent vertices ends.now marks.now opened.now syndrome.now loss.now) support.old correction.old
+        (unpacked_rounds result) support.new correction.new }
 {
     match decoder::decode_rounds(
         vertices, ends, marks, opened, syndrome, loss, support, correction,
@@ -89,11 +91,11 @@ pub extern "C" fn surface_decode_packed(
     correction: &mut [u8],
 ) -> u64
     ensures number { result ≡ packed_decoded
-        (decode_packed_answer (board_lent vertices ends marks opened) (before lit) (before lost) (before support) (before correction)) }
-    ensures outcome { DecodesPacked (board_lent vertices ends marks opened) (before lit) (before lost) (before support) (before correction)
-        (unpacked_decoded result) (after support) (after correction) }
-    ensures sound { DecodesPackedSoundly (board_lent vertices ends marks opened) (before lit) (before lost) (before support) (before correction)
-        (unpacked_decoded result) (after support) (after correction) }
+        (decode_packed_answer (board_lent vertices ends.now marks.now opened.now) lit.now lost.now support.old correction.old) }
+    ensures outcome { DecodesPacked (board_lent vertices ends.now marks.now opened.now) lit.now lost.now support.old correction.old
+        (unpacked_decoded result) support.new correction.new }
+    ensures sound { DecodesPackedSoundly (board_lent vertices ends.now marks.now opened.now) lit.now lost.now support.old correction.old
+        (unpacked_decoded result) support.new correction.new }
 {
     pack_decoded(packed::decode_packed(
         vertices, ends, marks, opened, lit, lost, support, correction,
@@ -111,9 +113,9 @@ pub extern "C" fn surface_verdict(
     loss: &[u8],
     handed: &[u8],
 ) -> u64
-    ensures number { result ≡ packed_verdict (verdict_answer (sheet_lent vertices ends marks opened syndrome loss) (before handed)) }
-    ensures outcome { Judges (sheet_lent vertices ends marks opened syndrome loss) (before handed) (unpacked_verdict result) }
-    ensures sound { JudgesSoundly (sheet_lent vertices ends marks opened syndrome loss) (before handed) (unpacked_verdict result) }
+    ensures number { result ≡ packed_verdict (verdict_answer (sheet_lent vertices ends.now marks.now opened.now syndrome.now loss.now) handed.now) }
+    ensures outcome { Judges (sheet_lent vertices ends.now marks.now opened.now syndrome.now loss.now) handed.now (unpacked_verdict result) }
+    ensures sound { JudgesSoundly (sheet_lent vertices ends.now marks.now opened.now syndrome.now loss.now) handed.now (unpacked_verdict result) }
 {
     pack_verdict(verdict::verdict(vertices, ends, marks, opened, syndrome, loss, handed))
 }
@@ -128,11 +130,11 @@ pub extern "C" fn surface_faces(
     faces: &mut [u8],
 ) -> u64
     ensures number { result ≡ packed_verdict
-        (faces_answer side (before syndrome) (before loss) (before handed) (before faces)) }
-    ensures outcome { ShowsFaces side (before syndrome) (before loss) (before handed) (before faces)
-        (unpacked_verdict result) (after faces) }
-    ensures sound { FacesSoundly side (before syndrome) (before loss) (before handed) (before faces)
-        (unpacked_verdict result) (after faces) }
+        (faces_answer side syndrome.now loss.now handed.now faces.old) }
+    ensures outcome { ShowsFaces side syndrome.now loss.now handed.now faces.old
+        (unpacked_verdict result) faces.new }
+    ensures sound { FacesSoundly side syndrome.now loss.now handed.now faces.old
+        (unpacked_verdict result) faces.new }
 {
     pack_verdict(faces::faces(side as usize, syndrome, loss, handed, faces))
 }
@@ -146,8 +148,8 @@ pub extern "C" fn surface_distance(
     opened: &[u8],
     shown: &mut [u8],
 ) -> u64
-    ensures number { result ≡ packed_distance (distance_answer (board_lent vertices ends marks opened) (before shown)) }
-    ensures outcome { Measures (board_lent vertices ends marks opened) (before shown) (unpacked_distance result) (after shown) }
+    ensures number { result ≡ packed_distance (distance_answer (board_lent vertices ends.now marks.now opened.now) shown.old) }
+    ensures outcome { Measures (board_lent vertices ends.now marks.now opened.now) shown.old (unpacked_distance result) shown.new }
 {
     match distance::distance(vertices, ends, marks, opened, shown) {
         Distance::Fewest(d) => pack(d, 1),
@@ -159,8 +161,8 @@ pub extern "C" fn surface_distance(
 // The torus of a side, with its ends and marks filled: the vertex count.
 #[unsafe(no_mangle)]
 pub extern "C" fn surface_torus(side: u32, ends: &mut [u16], marks: &mut [u8]) -> u64
-    ensures number { result ≡ packed_built (torus_answer side (before ends) (before marks)) }
-    ensures outcome { Builds side (before ends) (before marks) (unpacked_built result) (after ends) (after marks) }
+    ensures number { result ≡ packed_built (torus_answer side ends.old marks.old) }
+    ensures outcome { Builds side ends.old marks.old (unpacked_built result) ends.new marks.new }
 {
     match torus::torus(side as usize, ends, marks) {
         Built::Vertices(n) => pack(n, 0),
@@ -176,9 +178,9 @@ pub extern "C" fn surface_planar(
     marks: &mut [u8],
     opened: &mut [u8],
 ) -> u64
-    ensures number { result ≡ packed_built (planar_answer side (before ends) (before marks) (before opened)) }
-    ensures outcome { BuildsPlanar side (before ends) (before marks) (before opened)
-        (unpacked_built result) (after ends) (after marks) (after opened) }
+    ensures number { result ≡ packed_built (planar_answer side ends.old marks.old opened.old) }
+    ensures outcome { BuildsPlanar side ends.old marks.old opened.old
+        (unpacked_built result) ends.new marks.new opened.new }
 {
     match planar::planar(side as usize, ends, marks, opened) {
         Built::Vertices(n) => pack(n, 0),
@@ -197,11 +199,11 @@ pub extern "C" fn surface_stack(
     syndrome: &mut [u8],
 ) -> u64
     ensures number { result ≡ packed_built
-        (stack_answer side rounds (before readings) (before ends) (before marks) (before syndrome)) }
-    ensures outcome { BuildsStack side rounds (before readings) (before ends) (before marks) (before syndrome)
-        (unpacked_built result) (after ends) (after marks) (after syndrome) }
-    ensures sound { StacksSoundly side rounds (before readings)
-        (unpacked_built result) (after ends) (after marks) (after syndrome) }
+        (stack_answer side rounds readings.now ends.old marks.old syndrome.old) }
+    ensures outcome { BuildsStack side rounds readings.now ends.old marks.old syndrome.old
+        (unpacked_built result) ends.new marks.new syndrome.new }
+    ensures sound { StacksSoundly side rounds readings.now
+        (unpacked_built result) ends.new marks.new syndrome.new }
 {
     match stack::stack(
         side as usize,
@@ -227,10 +229,10 @@ pub extern "C" fn surface_read(
     loss: &mut [u8],
 ) -> u64
     ensures number { result ≡ packed_reading
-        (counts (read_outcome (before text)
-        (buffers_of (before ends) (before marks) (before opened) (before syndrome) (before loss)))) }
-    ensures outcome { Reads (before text) (buffers_of (before ends) (before marks) (before opened) (before syndrome) (before loss))
-        (unpacked_reading result) (buffers_of (after ends) (after marks) (after opened) (after syndrome) (after loss)) }
+        (counts (read_outcome text.now
+        (buffers_of ends.old marks.old opened.old syndrome.old loss.old))) }
+    ensures outcome { Reads text.now (buffers_of ends.old marks.old opened.old syndrome.old loss.old)
+        (unpacked_reading result) (buffers_of ends.new marks.new opened.new syndrome.new loss.new) }
 {
     pack_reading(text::reading::read(text, ends, marks, opened, syndrome, loss))
 }
@@ -246,8 +248,8 @@ pub extern "C" fn surface_write(
     loss: &[u8],
     text: &mut [u8],
 ) -> u64
-    ensures number { result ≡ packed_written (write_answer (sheet_lent vertices ends marks opened syndrome loss) (before text)) }
-    ensures outcome { Writes (sheet_lent vertices ends marks opened syndrome loss) (before text) (unpacked_written result) (after text) }
+    ensures number { result ≡ packed_written (write_answer (sheet_lent vertices ends.now marks.now opened.now syndrome.now loss.now) text.old) }
+    ensures outcome { Writes (sheet_lent vertices ends.now marks.now opened.now syndrome.now loss.now) text.old (unpacked_written result) text.new }
 {
     match text::writing::write(vertices, ends, marks, opened, syndrome, loss, text) {
         Written::Bytes(n) => pack(n, 0),
@@ -266,10 +268,10 @@ pub extern "C" fn surface_pack(
     lost: &mut [u64],
 ) -> u64
     ensures number { result ≡ packed_words
-        (pack_answer vertices edges (before syndrome) (before loss) (before lit) (before lost)) }
-    ensures outcome { Packs vertices edges (before syndrome) (before loss) (before lit) (before lost)
-        (unpacked_words result) (after lit) (after lost) }
-    ensures sound { PacksSoundly vertices edges (before syndrome) (before loss) (unpacked_words result) (after lit) (after lost) }
+        (pack_answer vertices edges syndrome.now loss.now lit.old lost.old) }
+    ensures outcome { Packs vertices edges syndrome.now loss.now lit.old lost.old
+        (unpacked_words result) lit.new lost.new }
+    ensures sound { PacksSoundly vertices edges syndrome.now loss.now (unpacked_words result) lit.new lost.new }
 {
     match packed::pack(vertices, edges, syndrome, loss, lit, lost) {
         Packed::Words {
@@ -291,10 +293,10 @@ pub extern "C" fn surface_unpack(
     loss: &mut [u8],
 ) -> u64
     ensures number { result ≡ packed_reading
-        (unpack_answer vertices edges (before lit) (before lost) (before syndrome) (before loss)) }
-    ensures outcome { Unpacks vertices edges (before lit) (before lost) (before syndrome) (before loss)
-        (unpacked_reading result) (after syndrome) (after loss) }
-    ensures sound { UnpacksSoundly vertices edges (before lit) (before lost) (unpacked_reading result) (after syndrome) (after loss) }
+        (unpack_answer vertices edges lit.now lost.now syndrome.old loss.old) }
+    ensures outcome { Unpacks vertices edges lit.now lost.now syndrome.old loss.old
+        (unpacked_reading result) syndrome.new loss.new }
+    ensures sound { UnpacksSoundly vertices edges lit.now lost.now (unpacked_reading result) syndrome.new loss.new }
 {
     pack_reading(packed::unpack(vertices, edges, lit, lost, syndrome, loss))
 }
@@ -302,9 +304,9 @@ pub extern "C" fn surface_unpack(
 // The lit vertices of a packed syndrome: their total.
 #[unsafe(no_mangle)]
 pub extern "C" fn surface_lit_total(vertices: usize, lit: &[u64]) -> u64
-    ensures number { result ≡ packed_lit (lit_answer vertices (before lit)) }
-    ensures outcome { Totals vertices (before lit) (unpacked_lit result) }
-    ensures sound { TotalsSoundly vertices (before lit) (unpacked_lit result) }
+    ensures number { result ≡ packed_lit (lit_answer vertices lit.now) }
+    ensures outcome { Totals vertices lit.now (unpacked_lit result) }
+    ensures sound { TotalsSoundly vertices lit.now (unpacked_lit result) }
 {
     pack_lit(packed::lit_total(vertices, lit))
 }
@@ -312,9 +314,9 @@ pub extern "C" fn surface_lit_total(vertices: usize, lit: &[u64]) -> u64
 // The same, with the lit vertices, rising, at the front of the lent list: their total.
 #[unsafe(no_mangle)]
 pub extern "C" fn surface_list_lit(vertices: usize, lit: &[u64], list: &mut [u16]) -> u64
-    ensures number { result ≡ packed_lit (list_answer vertices (before lit) (before list)) }
-    ensures outcome { Lists vertices (before lit) (before list) (unpacked_lit result) (after list) }
-    ensures sound { TotalsSoundly vertices (before lit) (unpacked_lit result) }
+    ensures number { result ≡ packed_lit (list_answer vertices lit.now list.old) }
+    ensures outcome { Lists vertices lit.now list.old (unpacked_lit result) list.new }
+    ensures sound { TotalsSoundly vertices lit.now (unpacked_lit result) }
 {
     pack_lit(packed::list_lit(vertices, lit, list))
 }
@@ -328,9 +330,9 @@ pub extern "C" fn surface_game(
     opened: &[u8],
     position: &[u8],
 ) -> u64
-    ensures number { result ≡ packed_game (game_answer (board_lent vertices ends marks opened) (before position)) }
-    ensures outcome { Plays (board_lent vertices ends marks opened) (before position) (unpacked_game result) }
-    ensures sound { PlaysSoundly (board_lent vertices ends marks opened) (before position) (unpacked_game result) }
+    ensures number { result ≡ packed_game (game_answer (board_lent vertices ends.now marks.now opened.now) position.now) }
+    ensures outcome { Plays (board_lent vertices ends.now marks.now opened.now) position.now (unpacked_game result) }
+    ensures sound { PlaysSoundly (board_lent vertices ends.now marks.now opened.now) position.now (unpacked_game result) }
 {
     pack_game(game::game(vertices, ends, marks, opened, position))
 }

@@ -1,6 +1,6 @@
 // The search for a trap under its plain C name; what `number`, `outcome` and `sound` say is told at the head of `lib.rt`.
 ghost use Rattle.std.specs.Prelude.{◌≡◌};
-ghost use Rattle.model.specs.Lent.{before, after, board_lent};
+ghost use Rattle.model.specs.Lent.{board_lent};
 ghost use Rattle.model.specs.TrapOutcomes.{trap_answer, SetsTrap, TrapsSoundly};
 ghost use Rattle.model.specs.Packing.{packed_trap, unpacked_trap};
 
@@ -16,9 +16,9 @@ pub extern "C" fn surface_trap(
     loss: &[u8],
     set: &mut [u8],
 ) -> u64
-    ensures number { result ≡ packed_trap (trap_answer (board_lent vertices ends marks opened) (before loss) (before set)) }
-    ensures outcome { SetsTrap (board_lent vertices ends marks opened) (before loss) (before set) (unpacked_trap result) (after set) }
-    ensures sound { TrapsSoundly (board_lent vertices ends marks opened) (before loss) (before set) (unpacked_trap result) (after set) }
+    ensures number { result ≡ packed_trap (trap_answer (board_lent vertices ends.now marks.now opened.now) loss.now set.old) }
+    ensures outcome { SetsTrap (board_lent vertices ends.now marks.now opened.now) loss.now set.old (unpacked_trap result) set.new }
+    ensures sound { TrapsSoundly (board_lent vertices ends.now marks.now opened.now) loss.now set.old (unpacked_trap result) set.new }
 {
     pack_trap(trap::trap(vertices, ends, marks, opened, loss, set))
 }

@@ -1,5 +1,4 @@
 ghost use Rattle.std.specs.Prelude.{◌≡◌, drop};
-ghost use Rattle.model.specs.Lent.{before};
 ghost use Rattle.model.specs.Text.{tab};
 ghost use Rattle.text.specs.Pieces.{up_to};
 ghost use Rattle.text.specs.FieldReadings.{digit_read, field_read};
@@ -15,14 +14,14 @@ pub const DIGIT_ZERO: u8 = 48;
 const LARGEST: u16 = EDGES as u16;
 
 // What a field reads as: its number and the position after it, where its tab or the line's end stands.
-#[derive(Drop)]
+#[derive(Clone, Copy)]
 pub enum Field {
     Number { value: u16, end: usize },
     Malformed,
 }
 
 // What a byte is as a digit.
-#[derive(Drop)]
+#[derive(Clone, Copy)]
 enum Digit {
     Value(u16),
     Other,
@@ -43,7 +42,7 @@ fn digit_of(byte: u8) -> Digit
 
 // The field of a line that begins at a position: base ten without leading zeros.
 pub fn field_at(line: &[u8], at: usize) -> Field
-    ensures { result ≡ field_read at (up_to tab (drop at (before line))) }
+    ensures { result ≡ field_read at (up_to tab (drop at line.now)) }
 {
     if line.len() <= at {
         return Field::Malformed;

@@ -1,4 +1,6 @@
 // The text form of a board with its syndrome and losses: the reader, the writer, and the line reader below them.
+#![tactic(auto)]
+
 mod field;
 mod line;
 mod order;

@@ -1,5 +1,4 @@
 ghost use Rattle.std.specs.Prelude.{◌≡◌, ◌+◌, length, drop};
-ghost use Rattle.model.specs.Lent.{before};
 ghost use Rattle.model.specs.Text.{newline, tab, letter_e, parted_by, line_from};
 ghost use Rattle.model.specs.LineNumbers.{line_number};
 ghost use Rattle.text.specs.Pieces.{up_to};
@@ -23,7 +22,7 @@ pub const LETTER_S: u8 = 83;
 pub const LETTER_X: u8 = 88;
 
 // A line by its kind, with its numbers.
-#[derive(Drop)]
+#[derive(Clone, Copy)]
 pub enum Line {
     Vertices(u16),
     Edge {
@@ -37,14 +36,14 @@ pub enum Line {
 }
 
 // What the bytes of a line say.
-#[derive(Drop)]
+#[derive(Clone, Copy)]
 pub enum Parsed {
     Line(Line),
     Malformed,
 }
 
 // What reading a line gives: the line, the position after its newline, and the number of the line that begins there.
-#[derive(Drop)]
+#[derive(Clone, Copy)]
 pub enum LineRead {
     Line {
         line: Line,
@@ -56,7 +55,7 @@ pub enum LineRead {
 
 // The position of the newline that ends the line at a position, or the text's end.
 fn line_end(text: &[u8], at: usize) -> usize
-    ensures { result ≡ at + length (up_to newline (drop at (before text))) }
+    ensures { result ≡ at + length (up_to newline (drop at text.now)) }
 {
     let mut end = at;
     while end < text.len() {
@@ -70,7 +69,7 @@ fn line_end(text: &[u8], at: usize) -> usize
 
 // An edge's line: three fields from the third byte on.
 fn edge_line(line: &[u8]) -> Parsed
-    ensures { result ≡ fields_parsed letter_e (parted_by tab (drop 2 (before line))) }
+    ensures { result ≡ fields_parsed letter_e (parted_by tab (drop 2 line.now)) }
 {
     let Field::Number {
         value: first,
@@ -126,7 +125,7 @@ fn number_line(letter: u8, value: u16) -> Parsed
 
 // A line without its newline: a letter, a tab, and its fields.
 fn line_of(line: &[u8]) -> Parsed
-    ensures { result ≡ line_parsed (line_from (before line)) }
+    ensures { result ≡ line_parsed (line_from line.now) }
 {
     if line.len() < 2 {
         return Parsed::Malformed;
@@ -151,7 +150,7 @@ fn line_of(line: &[u8]) -> Parsed
 // The line of a text that begins at a position and has this number; a line without its newline is malformed.
 pub fn line_at(text: &[u8], at: usize, number: usize) -> LineRead
     requires { number ≡ line_number text.now at }
-    ensures { ReadsLine (before text) at number result }
+    ensures { ReadsLine text.now at number result }
 {
     let end = line_end(text, at);
     if text.len() <= end {

@@ -1,5 +1,4 @@
 ghost use Rattle.std.specs.Prelude.{◌≡◌, ◌≤◌};
-ghost use Rattle.model.specs.Lent.{before};
 ghost use Rattle.model.specs.Board.{vertex_limit};
 ghost use Rattle.model.specs.Text.{edge_may_follow, open_may_follow, syndrome_may_follow, loss_may_follow};
 ghost use Rattle.text.specs.Order.{meant, edge_fits, lit_fits, may_stand};
@@ -86,7 +85,7 @@ fn edge_fits(first: Vertex, second: Vertex, mark: u16, vertices: u16, edges: u16
 // A syndrome vertex is in range, and not open.
 fn lit_fits(vertex: Vertex, vertices: u16, opened: &[u8; VERTICES]) -> bool
     requires { vertices ≤ vertex_limit }
-    ensures { result ≡ lit_fits vertices (before opened) vertex.0 }
+    ensures { result ≡ lit_fits vertices opened.now vertex.0 }
 {
     let v = vertex.0;
     if vertices <= v {
@@ -98,7 +97,7 @@ fn lit_fits(vertex: Vertex, vertices: u16, opened: &[u8; VERTICES]) -> bool
 // May a line stand after the last one, on a sheet of so many vertices, so far so many edges, and these open bytes?
 pub fn may_stand(last: Line, line: Line, vertices: u16, edges: u16, opened: &[u8; VERTICES]) -> bool
     requires { vertices ≤ vertex_limit }
-    ensures { result ≡ may_stand vertices edges (before opened) (meant last) (meant line) }
+    ensures { result ≡ may_stand vertices edges opened.now (meant last) (meant line) }
 {
     match line {
         Line::Vertices(_) => false,

@@ -1,4 +1,3 @@
-ghost use Rattle.model.specs.Lent.{before, after};
 ghost use Rattle.model.specs.TextOutcomes.{buffers_of, Reads};
 ghost use Rattle.text.specs.Scratch.{Sized, Clear, ReadsInto};
 
@@ -22,7 +21,7 @@ fn read_lines(
 ) -> Reading
     requires sized { Sized (buffers_of ends.old marks.old opened.old syndrome.old loss.old) }
     requires clear { Clear (buffers_of ends.old marks.old opened.old syndrome.old loss.old) }
-    ensures { ReadsInto (before text) result (buffers_of (after ends) (after marks) (after opened) (after syndrome) (after loss)) }
+    ensures { ReadsInto text.now result (buffers_of ends.new marks.new opened.new syndrome.new loss.new) }
 {
     let mut lines = lines_of(text);
     let mut stage = Stage::Start;
@@ -50,7 +49,7 @@ fn read_lines(
 }
 
 // Of how many vertices and edges the entries are filled in.
-#[derive(Drop)]
+#[derive(Clone, Copy)]
 struct Filled {
     vertices: usize,
     edges: usize,
@@ -66,8 +65,8 @@ pub fn read(
     syndrome: &mut [u8],
     loss: &mut [u8],
 ) -> Reading
-    ensures { Reads (before text) (buffers_of (before ends) (before marks) (before opened) (before syndrome) (before loss))
-        result (buffers_of (after ends) (after marks) (after opened) (after syndrome) (after loss)) }
+    ensures { Reads text.now (buffers_of ends.old marks.old opened.old syndrome.old loss.old)
+        result (buffers_of ends.new marks.new opened.new syndrome.new loss.new) }
 {
     let fit = (ends.len() == ENDS)
         & (marks.len() == EDGES)

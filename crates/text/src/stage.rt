@@ -1,5 +1,4 @@
 ghost use Rattle.std.specs.Prelude.{◌≡◌};
-ghost use Rattle.model.specs.Lent.{before, after};
 ghost use Rattle.model.specs.TextOutcomes.{buffers_of};
 ghost use Rattle.text.specs.Order.{meant};
 ghost use Rattle.text.specs.Stages.{vertices_of, begun_with, Within, Takes};
@@ -11,7 +10,7 @@ use model::limits::{EDGES, ENDS, VERTICES};
 
 // How far a text has been read: no line as yet; lines that make a sheet of so many vertices and so far so many edges, with the last of
 // them; or a malformed line, which ends the reading.
-#[derive(Drop)]
+#[derive(Clone, Copy)]
 pub enum Stage {
     Start,
     Sheet {
@@ -68,8 +67,8 @@ pub fn take_line(
     loss: &mut [u8; EDGES],
 ) -> Stage
     requires { Within stage }
-    ensures { Takes stage line (buffers_of (before ends) (before marks) (before opened) (before syndrome) (before loss))
-        result (buffers_of (after ends) (after marks) (after opened) (after syndrome) (after loss)) }
+    ensures { Takes stage line (buffers_of ends.old marks.old opened.old syndrome.old loss.old)
+        result (buffers_of ends.new marks.new opened.new syndrome.new loss.new) }
 {
     match stage {
         Stage::Start => begin(line),

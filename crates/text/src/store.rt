@@ -1,4 +1,3 @@
-ghost use Rattle.model.specs.Lent.{before, after};
 ghost use Rattle.model.specs.TextOutcomes.{buffers_of};
 ghost use Rattle.text.specs.Order.{meant};
 ghost use Rattle.text.specs.Scratch.{Storable, Stores};
@@ -18,8 +17,8 @@ pub fn store(
     loss: &mut [u8; EDGES],
 ) -> u16
     requires { Storable edges (meant line) }
-    ensures { Stores edges (meant line) (buffers_of (before ends) (before marks) (before opened) (before syndrome) (before loss))
-        result (buffers_of (after ends) (after marks) (after opened) (after syndrome) (after loss)) }
+    ensures { Stores edges (meant line) (buffers_of ends.old marks.old opened.old syndrome.old loss.old)
+        result (buffers_of ends.new marks.new opened.new syndrome.new loss.new) }
 {
     match line {
         Line::Vertices(_) => edges,

@@ -1,5 +1,5 @@
 ghost use Rattle.std.specs.Prelude.{◌≡◌, ◌+◌, ◌*◌, ◌≤◌, length};
-ghost use Rattle.model.specs.Lent.{before, after, sheet_lent};
+ghost use Rattle.model.specs.Lent.{sheet_lent};
 ghost use Rattle.model.specs.Board.{board_of, sheet_of, edge_limit};
 ghost use Rattle.model.specs.TextOutcomes.{Writes};
 ghost use Rattle.text.specs.Printing.{Puts, edges_bytes, sheet_bytes};
@@ -23,7 +23,7 @@ const LONGEST: usize = 7 + 14 * EDGES + 7 * VERTICES + 7 * EDGES;
 fn put_edges(out: &mut [u8], at: usize, ends: &[u16], marks: &[u8]) -> usize
     requires ends_len { (length ends.now ≡ 2 * length marks.now) × (length marks.now ≤ edge_limit) }
     requires marks_in_bounds { at + length (edges_bytes ends.now marks.now (length marks.now)) ≤ length out.old }
-    ensures { Puts (edges_bytes (before ends) (before marks) (length (before marks))) (before out) at result (after out) }
+    ensures { Puts (edges_bytes ends.now marks.now (length marks.now)) out.old at result out.new }
 {
     let mut next = at;
     let mut e = 0;
@@ -51,7 +51,7 @@ fn put_sheet(
     requires ends_len { (length ends.now ≡ 2 * length marks.now) × (length marks.now ≤ edge_limit) }
     requires loss_in_bounds { length (sheet_bytes (sheet_of (board_of vertices ends.now marks.now opened.now) syndrome.now loss.now))
         ≤ length out.old }
-    ensures { Puts (sheet_bytes (sheet_lent vertices ends marks opened syndrome loss)) (before out) 0 result (after out) }
+    ensures { Puts (sheet_bytes (sheet_lent vertices ends.now marks.now opened.now syndrome.now loss.now)) out.old 0 result out.new }
 {
     let edges_at = put_line(out, 0, LETTER_V, vertices);
     let opened_at = put_edges(out, edges_at, ends, marks);
@@ -70,7 +70,7 @@ pub fn write(
     loss: &[u8],
     text: &mut [u8],
 ) -> Written
-    ensures { Writes (sheet_lent vertices ends marks opened syndrome loss) (before text) result (after text) }
+    ensures { Writes (sheet_lent vertices ends.now marks.now opened.now syndrome.now loss.now) text.old result text.new }
 {
     if let Check::Failed(refusal) = check_sheet(
         vertices, ends, marks, opened, syndrome, loss, true,

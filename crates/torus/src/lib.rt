@@ -1,8 +1,9 @@
 // The torus of side L: its builder.
+#![tactic(auto)]
+
 pub mod cells;
 
 ghost use Rattle.std.specs.Prelude.{◌≡◌, ◌*◌, length};
-ghost use Rattle.model.specs.Lent.{before, after};
 ghost use Rattle.model.specs.Torus.{torus_ends, torus_marks};
 ghost use Rattle.model.specs.Outcomes.{Builds};
 ghost use Rattle.torus.specs.Sides.{SideWithin};
@@ -15,7 +16,7 @@ use model::refusal::Refusal;
 
 // The torus of side L: the vertex count, with 4L² ends and 2L² marks filled in; or a refusal, with nothing written.
 pub fn torus(side: usize, ends: &mut [u16], marks: &mut [u8]) -> Built
-    ensures { Builds side (before ends) (before marks) result (after ends) (after marks) }
+    ensures { Builds side ends.old marks.old result ends.new marks.new }
 {
     if side < LEAST_SIDE || side > LARGEST_SIDE {
         return Built::Refused(Refusal::TorusSide(side));
@@ -32,7 +33,7 @@ pub fn torus(side: usize, ends: &mut [u16], marks: &mut [u8]) -> Built
 // Both edges of each vertex in turn: to its right, then below.
 pub fn fill_ends(side: usize, ends: &mut [u16])
     requires { SideWithin side × (length ends.old ≡ 4 * (side * side)) }
-    ensures { after ends ≡ torus_ends side }
+    ensures { ends.new ≡ torus_ends side }
 {
     let vertices = side * side;
     let mut v = 0;
@@ -53,7 +54,7 @@ pub fn fill_ends(side: usize, ends: &mut [u16])
 // The marks of these edges, in the same order.
 pub fn fill_marks(side: usize, marks: &mut [u8])
     requires { SideWithin side × (length marks.old ≡ 2 * (side * side)) }
-    ensures { after marks ≡ torus_marks side }
+    ensures { marks.new ≡ torus_marks side }
 {
     let vertices = side * side;
     let mut v = 0;

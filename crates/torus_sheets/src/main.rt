@@ -1,4 +1,6 @@
 // Tori as the builder writes them: the sides 1, 2 and 3 edge by edge, 32 by its sums, and every refusal with the buffers it left.
+#![tactic(auto)]
+
 ghost use Rattle.std.specs.Prelude.{◌≤◌};
 
 use libc::STDOUT_FILENO;

@@ -1,6 +1,6 @@
 // The tests of what the search for a trap is lent.
 ghost use Rattle.std.specs.Prelude.{◌≡◌};
-ghost use Rattle.model.specs.Lent.{before, board_lent};
+ghost use Rattle.model.specs.Lent.{board_lent};
 ghost use Rattle.model.specs.Refusals.{trap_refusal};
 ghost use Rattle.board.specs.Checks.{test_of};
 
@@ -20,7 +20,7 @@ pub(crate) fn check_trap(
     loss: &[u8],
     set: &[u8],
 ) -> Check
-    ensures { test_of result ≡ trap_refusal (board_lent vertices ends marks opened) (before loss) (before set) }
+    ensures { test_of result ≡ trap_refusal (board_lent vertices ends.now marks.now opened.now) loss.now set.now }
 {
     let edges = ends.len() / 2;
     let fit = (loss.len() == edges) & (set.len() == edges);

@@ -1,9 +1,11 @@
 // Traps: errors on which the key misleads, with the fewest edges.
+#![tactic(auto)]
+
 mod checks;
 mod misleading;
 mod search;
 
-ghost use Rattle.model.specs.Lent.{before, after, board_lent};
+ghost use Rattle.model.specs.Lent.{board_lent};
 ghost use Rattle.model.specs.TrapOutcomes.{SetsTrap, TrapsSoundly};
 
 use crate::checks::check_trap;
@@ -23,8 +25,8 @@ pub fn trap(
     loss: &[u8],
     set: &mut [u8],
 ) -> Trap
-    ensures outcome { SetsTrap (board_lent vertices ends marks opened) (before loss) (before set) result (after set) }
-    ensures sound { TrapsSoundly (board_lent vertices ends marks opened) (before loss) (before set) result (after set) }
+    ensures outcome { SetsTrap (board_lent vertices ends.now marks.now opened.now) loss.now set.old result set.new }
+    ensures sound { TrapsSoundly (board_lent vertices ends.now marks.now opened.now) loss.now set.old result set.new }
 {
     if let Check::Failed(refusal) = check_trap(vertices, ends, marks, opened, loss, set) {
         return Trap::Refused(refusal);

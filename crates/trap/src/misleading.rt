@@ -1,7 +1,7 @@
 // Whether a set is a trap: the sheet that is handed out after its edges were flipped is decoded, and the verdict on the set is asked for.
 ghost use Rattle.std.specs.Prelude.{◌≡◌, length};
 ghost use Rattle.model.specs.Board.{board_of, ValidBytes};
-ghost use Rattle.model.specs.Lent.{before, board_lent};
+ghost use Rattle.model.specs.Lent.{board_lent};
 ghost use Rattle.model.specs.Sums.{ones};
 ghost use Rattle.model.specs.Traps.{traps};
 ghost use Rattle.model.specs.Words.{bit_of};
@@ -24,7 +24,7 @@ fn misleads(
 ) -> bool
     requires { Settable (board_of vertices ends.now marks.now opened.now) loss.now
         × ValidBytes (length marks.now) flipped.now }
-    ensures { result ≡ traps (board_lent vertices ends marks opened) (before loss) (ones (before flipped)) }
+    ensures { result ≡ traps (board_lent vertices ends.now marks.now opened.now) loss.now (ones flipped.now) }
 {
     let edges = marks.len();
     let mut syndrome = [0u8; VERTICES];
@@ -56,7 +56,7 @@ pub(crate) fn is_trap(
     set: usize,
 ) -> bool
     requires { Settable (board_of vertices ends.now marks.now opened.now) loss.now }
-    ensures { result ≡ traps (board_lent vertices ends marks opened) (before loss) (bit_of set) }
+    ensures { result ≡ traps (board_lent vertices ends.now marks.now opened.now) loss.now (bit_of set) }
 {
     let edges = marks.len();
     let mut flipped = [0u8; TRAP_EDGES];

@@ -1,7 +1,7 @@
 // The sets of edges by size, from the least size that a trap can have.
 ghost use Rattle.std.specs.Prelude.{◌≡◌, ◌^◌, ◌<◌, length};
 ghost use Rattle.model.specs.Board.{board_of};
-ghost use Rattle.model.specs.Lent.{before, after, board_lent};
+ghost use Rattle.model.specs.Lent.{board_lent};
 ghost use Rattle.model.specs.Sums.{first_up_to};
 ghost use Rattle.trap.specs.Settable.{Settable};
 ghost use Rattle.trap.specs.Searching.{set_found, trap_of_size, LeastSize, ShowsShortest, ShowsSmallest};
@@ -11,7 +11,7 @@ use board::counting::count;
 use board::masks::{alone, spread};
 
 // The mask of a set that was looked for, if there is one.
-#[derive(Drop)]
+#[derive(Clone, Copy)]
 pub enum FoundSet {
     At(usize),
     Nowhere,
@@ -28,7 +28,7 @@ fn is_trap_of(
     set: usize,
 ) -> bool
     requires { Settable (board_of vertices ends.now marks.now opened.now) loss.now × (set < 2 ^ length marks.now) }
-    ensures { result ≡ trap_of_size (board_lent vertices ends marks opened) (before loss) size set }
+    ensures { result ≡ trap_of_size (board_lent vertices ends.now marks.now opened.now) loss.now size set }
 {
     let members = usize::count_ones(set) as usize;
     if members == size {
@@ -48,7 +48,7 @@ fn first_trap(
 ) -> FoundSet
     requires { Settable (board_of vertices ends.now marks.now opened.now) loss.now }
     ensures { set_found result
-        ≡ first_up_to (2 ^ length (before marks)) (trap_of_size (board_lent vertices ends marks opened) (before loss) size) }
+        ≡ first_up_to (2 ^ length marks.now) (trap_of_size (board_lent vertices ends.now marks.now opened.now) loss.now size) }
 {
     let all = alone(marks.len());
     let mut set = 0;
@@ -84,7 +84,7 @@ pub(crate) fn lighten(
 ) -> usize
     requires { Settable (board_of vertices ends.now marks.now opened.now) loss.now
         × ShowsShortest (board_of vertices ends.now marks.now opened.now) distance set.old }
-    ensures { ShowsSmallest (board_lent vertices ends marks opened) (before loss) result (after set) }
+    ensures { ShowsSmallest (board_lent vertices ends.now marks.now opened.now) loss.now result set.new }
 {
     let lost = count(loss, 1);
     let mut size = least_size(distance, lost);

@@ -1,6 +1,7 @@
 // Union-find on one array, of parents and of sizes. The clusters of the book, the parts of the board and the forest share it.
+#![tactic(auto)]
+
 ghost use Rattle.std.specs.Prelude.{◌≡◌};
-ghost use Rattle.model.specs.Lent.{before, after};
 ghost use Rattle.union_find.specs.Trees.{InTrees, RootIs, root_of};
 ghost use Rattle.union_find.specs.Packed.{parents_of, Fits, EachAlone, Compresses, Joinable, Hangable, Hangs, JoinsIn};
 
@@ -8,7 +9,7 @@ use model::limits::VERTICES;
 use model::numbers::Vertex;
 
 // What joining two vertices did.
-#[derive(Drop)]
+#[derive(Clone, Copy)]
 pub enum Joined {
     // The tree of the root `child` was hung under `root`, the root of a tree that is no smaller.
     Hung { child: Vertex, root: Vertex },
@@ -22,7 +23,7 @@ pub const ROOT: u16 = 1024;
 // The first `vertices` vertices, each alone: its own root, in a tree of one.
 pub fn alone(vertices: usize, tree: &mut [u16; VERTICES])
     requires { Fits vertices tree.old }
-    ensures { EachAlone vertices (after tree) }
+    ensures { EachAlone vertices tree.new }
 {
     for v in 0..vertices {
         tree[v] = ROOT + 1;
@@ -32,7 +33,7 @@ pub fn alone(vertices: usize, tree: &mut [u16; VERTICES])
 // The root of v's tree.
 pub fn root_of(tree: &[u16; VERTICES], v: Vertex) -> Vertex
     requires { InTrees (parents_of tree.now) v.0 }
-    ensures { result.0 ≡ root_of (parents_of (before tree)) v.0 }
+    ensures { result.0 ≡ root_of (parents_of tree.now) v.0 }
 {
     let mut w = v.0;
     loop {
@@ -47,7 +48,7 @@ pub fn root_of(tree: &[u16; VERTICES], v: Vertex) -> Vertex
 // Path compression: every vertex on the way up from v hangs under v's root. All others keep their parents, and the roots their sizes.
 pub fn compress(tree: &mut [u16; VERTICES], v: Vertex, root: Vertex)
     requires { RootIs (parents_of tree.old) v.0 root.0 }
-    ensures { Compresses (before tree) v.0 root.0 (after tree) }
+    ensures { Compresses tree.old v.0 root.0 tree.new }
 {
     let mut w = v.0;
     while w != root.0 {
@@ -60,7 +61,7 @@ pub fn compress(tree: &mut [u16; VERTICES], v: Vertex, root: Vertex)
 // The tree of the root `child` hung under `root`, which has the size of both then.
 fn hang(tree: &mut [u16; VERTICES], child: Vertex, root: Vertex) -> Joined
     requires { Hangable tree.old child.0 root.0 }
-    ensures { Hangs (before tree) child root result (after tree) }
+    ensures { Hangs tree.old child root result tree.new }
 {
     let x = child.0 as usize;
     let y = root.0 as usize;
@@ -73,7 +74,7 @@ fn hang(tree: &mut [u16; VERTICES], child: Vertex, root: Vertex) -> Joined
 // The trees of a and b as one: the smaller is hung under the root of the larger.
 pub fn join(tree: &mut [u16; VERTICES], a: Vertex, b: Vertex) -> Joined
     requires { Joinable tree.old a.0 b.0 }
-    ensures { JoinsIn (before tree) a.0 b.0 result (after tree) }
+    ensures { JoinsIn tree.old a.0 b.0 result tree.new }
 {
     let x = root_of(tree, a);
     let y = root_of(tree, b);

@@ -1,7 +1,6 @@
 // The exclusive or of the marks of two sets together, bit by bit.
 ghost use Rattle.std.specs.Prelude.{◌≡◌, ◌≤◌, ◌&&◌, length, eqb};
 ghost use Rattle.model.specs.Board.{ValidBytes};
-ghost use Rattle.model.specs.Lent.{before};
 ghost use Rattle.model.specs.Sums.{◌⊕◌, bit, ones};
 ghost use Rattle.model.specs.Winding.{together};
 ghost use Rattle.verdict.specs.CrossingParities.{crossed_by};
@@ -21,7 +20,7 @@ fn counted(parity: u8, handed: u8, correction: u8, crosses: u8) -> u8
 // Bit 0 says that the two sets together cross line A an odd number of times, bit 1 line B.
 pub(crate) fn crossings(marks: &[u8], handed: &[u8], correction: &[u8]) -> u8
     requires { ValidBytes (length marks.now) handed.now × ValidBytes (length marks.now) correction.now }
-    ensures { result ≡ crossed_by (before marks) (together (ones (before handed)) (ones (before correction))) }
+    ensures { result ≡ crossed_by marks.now (together (ones handed.now) (ones correction.now)) }
 {
     let mut a: u8 = 0;
     let mut b: u8 = 0;

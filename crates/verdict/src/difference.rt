@@ -2,7 +2,6 @@
 // of the set.
 ghost use Rattle.std.specs.Prelude.{◌<◌, ◌&&◌, eqb, length};
 ghost use Rattle.model.specs.Board.{EndsWithin};
-ghost use Rattle.model.specs.Lent.{before, after};
 ghost use Rattle.model.specs.Sums.{ones};
 ghost use Rattle.verdict.specs.VertexParities.{Bits, Flipped, meets_at, met_by, Clearable, Cleared};
 
@@ -13,7 +12,7 @@ use model::numbers::{Edge, Vertex};
 // The byte of v is flipped.
 fn flip(vertices: usize, parity: &mut [u8; VERTICES], v: Vertex)
     requires { Bits vertices parity.old × (v.0 < vertices) }
-    ensures { Flipped (λ u. eqb v.0 u) vertices (before parity) (after parity) }
+    ensures { Flipped (λ u. eqb v.0 u) vertices parity.old parity.new }
 {
     let at = v.0 as usize;
     parity[at] = 1 - parity[at];
@@ -23,8 +22,8 @@ fn flip(vertices: usize, parity: &mut [u8; VERTICES], v: Vertex)
 fn count_edge(vertices: usize, ends: &[u16], handed: &[u8], e: Edge, parity: &mut [u8; VERTICES])
     requires { EndsWithin vertices (length handed.now) ends.now × (e.0 < length handed.now)
         × Bits vertices parity.old }
-    ensures { Flipped (λ v. ones (before handed) e.0 && meets_at (before ends) e.0 v) vertices
-        (before parity) (after parity) }
+    ensures { Flipped (λ v. ones handed.now e.0 && meets_at ends.now e.0 v) vertices
+        parity.old parity.new }
 {
     let at = e.0 as usize;
     if handed[at] == 1 {
@@ -36,8 +35,8 @@ fn count_edge(vertices: usize, ends: &[u16], handed: &[u8], e: Edge, parity: &mu
 // Every edge is counted, from the syndrome put: what is left lit is where the handed-in set differs from it.
 pub fn count_edges(vertices: usize, ends: &[u16], handed: &[u8], parity: &mut [u8; VERTICES])
     requires { EndsWithin vertices (length handed.now) ends.now × Bits vertices parity.old }
-    ensures { Flipped (met_by (before ends) (ones (before handed)) (length (before handed))) vertices
-        (before parity) (after parity) }
+    ensures { Flipped (met_by ends.now (ones handed.now) (length handed.now)) vertices
+        parity.old parity.new }
 {
     let mut e = 0;
     while e < handed.len() {
@@ -49,7 +48,7 @@ pub fn count_edges(vertices: usize, ends: &[u16], handed: &[u8], parity: &mut [u
 // An open vertex has no syndrome: its byte becomes 0.
 pub fn clear_open(opened: &[u8], parity: &mut [u8; VERTICES])
     requires { Clearable (length opened.now) parity.old }
-    ensures { Cleared (length (before opened)) (before opened) (before parity) (after parity) }
+    ensures { Cleared (length opened.now) opened.now parity.old parity.new }
 {
     let mut v = 0;
     while v < opened.len() {

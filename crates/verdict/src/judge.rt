@@ -1,7 +1,7 @@
 // How a handed-in set compares with the correction.
 ghost use Rattle.std.specs.Prelude.{◌≡◌};
 ghost use Rattle.model.specs.Board.{board_of};
-ghost use Rattle.model.specs.Lent.{before, board_lent};
+ghost use Rattle.model.specs.Lent.{board_lent};
 ghost use Rattle.model.specs.Sums.{ones};
 ghost use Rattle.model.specs.Verdict.{judged};
 ghost use Rattle.verdict.specs.Judging.{Judgeable, is_wound};
@@ -25,8 +25,8 @@ pub fn judge(
     correction: &[u8],
 ) -> Verdict
     requires { Judgeable (board_of vertices ends.now marks.now opened.now) syndrome.now handed.now correction.now }
-    ensures { result ≡ judged (board_lent vertices ends marks opened)
-        (ones (before syndrome)) (ones (before correction)) (ones (before handed)) }
+    ensures { result ≡ judged (board_lent vertices ends.now marks.now opened.now)
+        (ones syndrome.now) (ones correction.now) (ones handed.now) }
 {
     let mut parity = [0u8; VERTICES];
     copy_bytes(syndrome, vertices, &mut parity);

@@ -1,10 +1,12 @@
 // The verdict on a handed-in set.
+#![tactic(auto)]
+
 mod crossings;
 pub mod difference;
 pub mod judge;
 
 ghost use Rattle.model.specs.Board.{board_of, sheet_of};
-ghost use Rattle.model.specs.Lent.{before, after, sheet_lent};
+ghost use Rattle.model.specs.Lent.{sheet_lent};
 ghost use Rattle.model.specs.Outcomes.{Judges, JudgesSoundly};
 ghost use Rattle.verdict.specs.Judging.{Comparable, Compares};
 
@@ -29,8 +31,8 @@ pub fn compare(
 ) -> Verdict
     requires { Comparable (sheet_of (board_of vertices ends.now marks.now opened.now) syndrome.now loss.now)
         handed.now support.old correction.old }
-    ensures { Compares (sheet_lent vertices ends marks opened syndrome loss) (before handed) (before support) (before correction)
-        result (after support) (after correction) }
+    ensures { Compares (sheet_lent vertices ends.now marks.now opened.now syndrome.now loss.now) handed.now support.old correction.old
+        result support.new correction.new }
 {
     let decoded = decode(
         vertices, ends, marks, opened, syndrome, loss, support, correction,
@@ -51,8 +53,8 @@ pub fn verdict(
     loss: &[u8],
     handed: &[u8],
 ) -> Verdict
-    ensures answer { Judges (sheet_lent vertices ends marks opened syndrome loss) (before handed) result }
-    ensures sound { JudgesSoundly (sheet_lent vertices ends marks opened syndrome loss) (before handed) result }
+    ensures answer { Judges (sheet_lent vertices ends.now marks.now opened.now syndrome.now loss.now) handed.now result }
+    ensures sound { JudgesSoundly (sheet_lent vertices ends.now marks.now opened.now syndrome.now loss.now) handed.now result }
 {
     if let Check::Failed(refusal) = check_verdict(
         vertices, ends, marks, opened, syndrome, loss, handed,
