@@ -106,7 +106,7 @@ pub parted_fields : {f : List ℕ} (ns : List ℕ) → Without tab f → parted_
 unfolding fields_of
 parted_fields {f} [] w = rw (append-nil f) (parted_one w)
 parted_fields {f} (n ∷ ns) w =
-    parted_first (decimal n ++ fields_of ns) w ∙ ap (λ fs. f ∷ fs) (parted_fields ns (decimal_without tab n (omega arith)))
+    parted_first (decimal n ++ fields_of ns) w ∙ ap (λ fs. f ∷ fs) (parted_fields {f = decimal n} ns (decimal_without tab n (omega arith)))
 
 pub numbers_read : (ns : List ℕ) → numbers (map decimal ns) ≡ some ns
 unfolding numbers

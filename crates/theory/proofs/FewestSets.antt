@@ -64,11 +64,13 @@ AtMost none s = ⊥
 AtMost (some d) s = d ≤ s
 
 lesser_left : (x y : Option ℕ) (s : ℕ) → AtMost x s → AtMost (lesser x y) s
+lesser_left none y s p = elim p [ ]
 lesser_left (some a) none s p = p
 lesser_left (some a) (some b) s p = omega arith
 
 lesser_right : (x y : Option ℕ) (s : ℕ) → AtMost y s → AtMost (lesser x y) s
 lesser_right none y s p = p
+lesser_right (some a) none s p = elim p [ ]
 lesser_right (some a) (some b) s p = omega arith
 
 -- What the search through all sets finds is reached.
