@@ -1,0 +1,17 @@
+use borrow.Author.Rules.{rules}
+use Rattle.union_find.proofs.Roots.{steps}
+use Rattle.union_find.proofs.CompressLoop.{Passing, passing_none, passing_inside, passing_less, passing_next, passing_all}
+use Rattle.union_find.specs.Packed.{parents_of}
+use Rattle.union_find.proofs.compress.Goals as goal
+
+pub loop-w-init : goal.loop-w-init
+loop-w-init c = passing_none _ c.requires
+
+pub loop-w-smaller : goal.loop-w-smaller
+loop-w-smaller c = passing_less _ _ c.loop-w.invariant c.loop-w-test.true
+
+pub loop-w-preserved : goal.loop-w-preserved
+loop-w-preserved c = passing_next _ _ c.loop-w.invariant c.loop-w-test.true
+
+pub returns : goal.returns
+returns c = passing_all _ _ (rw c.loop-w-test.false at c.loop-w.invariant)
