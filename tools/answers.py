@@ -28,13 +28,14 @@ class Place:
         self.own = {}
         self.arm = {}
         self.new = {}
+        self.fields = {}
         for row, new, arm in zip(rows, by_name, arms):
             old, parent, (a, b) = row[0], row[1], row[2]
             self.parent.setdefault(old, parent)
             self.own.setdefault(old, (plain(a), b))
             self.arm.setdefault(old, arm)
             self.new.setdefault(old, new)
-            self.far = row[4]
+            self.fields.setdefault(old, dict(row[4]))
 
     def chain(self, p):
         while p:
@@ -42,8 +43,61 @@ class Place:
             p = self.parent.get(p)
 
 
+def required():
+    """The names of the clauses of each function that requires more than one."""
+    found = {}
+    for folder, dirs, files in os.walk(os.path.join(TOP, "crates")):
+        dirs[:] = [d for d in dirs if d != "out"]
+        for n in files:
+            if n.endswith(".rt"):
+                text = open(os.path.join(folder, n), encoding="utf-8").read()
+                for m in re.finditer(r"\bfn (\w+)(.*?)(?=\bfn |\Z)", text, re.S):
+                    names = re.findall(r"(?m)^\s+requires (\w+) \{", m[2])
+                    if len(names) > 1:
+                        found[m[1]] = names
+                        found[os.path.relpath(folder, os.path.join(TOP, "crates")).split("/")[0], m[1]] = names
+    return found
+
+
+def parts_of(text):
+    """The parts of a tuple; nested to the right they are one tuple."""
+    text = text.strip()
+    if not text.startswith("(") or argument(text, 0)[1] != len(text):
+        return [text]
+    parts, depth, last = [], 0, 1
+    for i in range(1, len(text) - 1):
+        depth += (text[i] in "({[") - (text[i] in ")}]")
+        if text[i] == "," and depth == 0:
+            parts.append(text[last:i].strip())
+            last = i + 1
+    parts.append(text[last:-1].strip())
+    parts = [x for x in parts if x]
+    if len(parts) < 2:
+        return [text]
+    return parts[:-1] + parts_of(parts[-1])
+
+
+def ways_of(lts):
+    """For each step at which branches join: the constructors of its ways, with the fields of each."""
+    try:
+        text = open(lts, encoding="utf-8").read()
+    except OSError:
+        return {}
+    fields, ctors, found = {}, {}, {}
+    for m in re.finditer(r"pub record (By-\S+) : Type 0 where\n((?:[^\n]+\n)*)", text):
+        fields[m[1]] = re.findall(r"(?m)^ +pub (\S+) :", m[2])
+    for m in re.finditer(r"pub data (Came-\S+) : Type 0 where\n((?: +.*\n)*?)\n", text):
+        ctors[m[1]] = re.findall(r"(\S+) :\s+(By-\S+)\s+→", m[2])
+    for m in re.finditer(r"pub record (\S+) : Type 0 where\n +pub before : \S+\n +pub open before use \*\n +pub (\S+) : Step-(\S+) before", text):
+        if "Came-" + m[3] in ctors:
+            found[m[2]] = [(c, fields.get(by, [])) for c, by in ctors["Came-" + m[3]]]
+    return found
+
+
 class Function:
-    def __init__(self, data, said):
+    def __init__(self, data, said, lts):
+        self.ways = ways_of(lts)
+        self.imports = set()
         self.places = Place(data["places"], data["places_by_name"], data["arms"])
         self.needs = {plain(a): (b, at[0]) for (a, b), at in zip(data["needs"], data["asked_at"])}
         self.settled = {plain(s) for s in data["settled"]}
@@ -58,8 +112,13 @@ class Function:
         if not fields:
             return None
         head, rest = fields[0], fields[1:]
-        if head == "requires" and self.pre and rest and rest[0].isdigit() and int(rest[0]) < len(self.pre["fields"]):
-            return ["requires", self.pre["fields"][int(rest[0])]] + rest[1:]
+        if head == "requires" and self.pre and rest and rest[0].isdigit():
+            i, last = 0, len(self.pre["fields"]) - 1
+            while i < last and rest and rest[0] == "1":
+                i, rest = i + 1, rest[1:]
+            if i < last and rest and rest[0] == "0":
+                rest = rest[1:]
+            return ["requires", self.pre["fields"][i]] + rest
         if head in ("args", "requires"):
             return fields
         for p in self.places.chain(place):
@@ -72,7 +131,9 @@ class Function:
                         best = (field, path)
                 if best:
                     return [arm[0], best[0]] + rest[len(best[1]):]
-            if old and plain(old) == plain(head):
+            if old and plain(old) == plain(re.sub(r"_lem(?=\d*$)", "", head)):
+                if rest:
+                    rest = [self.places.fields[p].get(rest[0], rest[0])] + rest[1:]
                 return [new] + rest
         self.said.append(f"no step {head} at {place}")
         return ["?" + head] + rest
@@ -115,7 +176,7 @@ def blocks(text):
             while i < len(lines) and (lines[i].startswith("unfolding")):
                 unf.append(lines[i])
                 i += 1
-            while i < len(lines) and (lines[i].startswith(name + " ") or lines[i].startswith(" ") or not lines[i].strip()):
+            while i < len(lines) and (lines[i].startswith(name + " ") or lines[i].startswith((" ", ")", "]", "}")) or not lines[i].strip()):
                 if not lines[i].strip() and not (i + 1 < len(lines) and lines[i + 1].startswith(" ")):
                     break
                 body.append(lines[i])
@@ -136,6 +197,21 @@ def clause(block):
     if not m:
         return None
     return m[1].split(), text[m.end():]
+
+
+def argument(text, at):
+    """The argument that begins at a place, and where it ends."""
+    while at < len(text) and text[at] in " \n":
+        at += 1
+    if at < len(text) and text[at] == "(":
+        depth = 0
+        for i in range(at, len(text)):
+            depth += (text[i] in "({[") - (text[i] in ")}]")
+            if depth == 0:
+                m = re.match(r"[^\s(){};,]*", text[i + 1:])
+                return text[at:i + 1 + m.end()], i + 1 + m.end()
+    m = re.match(WORD, text[at:])
+    return (m[0], at + m.end()) if m else ("", at)
 
 
 class Turn:
@@ -167,7 +243,57 @@ class Turn:
         for h in helpers:
             body = re.sub(r"\(" + re.escape(h) + r" (" + WORD + r")\)", lambda m: self.helper(h, m), body)
             body = re.sub(r"(?<![^\s(){};,])" + re.escape(h) + r" (" + WORD + r")", lambda m: self.helper(h, m), body)
-        return re.sub(WORD, lambda m: self.path(m[0]), body)
+        return re.sub(WORD, lambda m: self.path(m[0]), self.ways(body))
+
+    def ways(self, body):
+        """An elimination of what branch was taken, by the constructors and the fields that the check makes for it."""
+        found = re.search(r"⊎_elim\s", body)
+        if not found:
+            return body
+        at = found.start()
+        one, i = argument(body, at + 7)
+        two, j = argument(body, i)
+        which, k = argument(body, j)
+        inner = which.strip("()")
+        kinds = None
+        if inner.endswith(".branch") and " " not in inner and inner.split(".")[0] in self.alias:
+            flat = self.f.flat(self.place, self.alias[inner.split(".")[0]] + inner.split(".")[1:-1])
+            kinds = self.f.ways.get(flat[-1]) if flat else None
+        if not kinds or len(kinds) != 2:
+            if inner.endswith(".branch"):
+                self.f.said.append(f"ways of {inner} by hand: {kinds and len(kinds)}")
+            return body[:at + 7] + self.ways(body[at + 7:])
+        arms = []
+        for text, (ctor, fields) in zip((one, two), kinds):
+            m = re.fullmatch(r"\(λ (\S+)\. (.*)\)", text, re.S)
+            if not m:
+                self.f.said.append(f"a way of {inner} is no λ: {text[:60]}")
+                return body[:at + 7] + self.ways(body[at + 7:])
+            var, inside = m[1], self.ways(m[2])
+            inside = re.sub(WORD, lambda w: self.field(w[0], var, fields), inside)
+            arms.append(f"{ctor} {var} ↦ {inside}")
+            self.f.imports.add(ctor)
+        path = ".".join(["\x01c"] + flat + ["branch"])
+        return body[:at] + f"elim {path} [ " + " | ".join(arms) + " ]" + self.ways(body[k:])
+
+    def field(self, word, var, fields):
+        parts = word.split(".")
+        if parts[0] != var or len(parts) == 1 and len(fields) != 1:
+            return word
+        if len(fields) == 1 and not (len(parts) > 1 and parts[1] == "0"):
+            rest = parts[1:]
+        else:
+            if not parts[1].isdigit() or int(parts[1]) >= len(fields):
+                self.f.said.append(f"{word} has no field in {fields}")
+                return word
+            fields, rest = [fields[int(parts[1])]], parts[2:]
+        turned = {"taken": "true", "left": "false"}
+        rest = [turned.get(rest[0], rest[0])] + rest[1:] if rest else rest
+        for p, (old, new) in self.f.places.own.items():
+            if rest and new == fields[0] and rest[0] in self.f.places.fields[p]:
+                rest = [self.f.places.fields[p][rest[0]]] + rest[1:]
+                break
+        return ".".join(["\x01" + var, fields[0]] + rest)
 
     def helper(self, h, m):
         parts = m[1].split(".")
@@ -236,7 +362,7 @@ def answers(f, decls, said):
             kept.append("\n".join(b["notes"] + b["sig"] + b["unf"] + b["body"]))
             continue
         params, body = got
-        if trivial(body):
+        if trivial(body) and not b["unf"]:
             continue
         need = plain(m[1])
         if need not in f.needs:
@@ -250,6 +376,15 @@ def answers(f, decls, said):
         w = re.fullmatch(r"\s*record \{\s*fits = (.*?);?\s*\}\s*", text, re.S)
         if w:
             text = w[1]
+        callee = re.sub(r"_requires(_\d+)?$", "", need).rstrip("0123456789")
+        names = REQUIRED.get((f.crate, callee), REQUIRED.get(callee)) if "requires" in need else None
+        if names:
+            lead = re.match(r"((?:\s*let .*? in(?=\s))*)(.*)$", text, re.S)
+            parts = parts_of(lead[2])
+            if len(parts) == len(names):
+                text = lead[1] + " record { " + "; ".join(f"{n} = {x}" for n, x in zip(names, parts)) + " }"
+            else:
+                said.append(f"{new}: {len(parts)} parts for {names}")
         extra = "".join(" " + p for p in params[1:])
         text = text.strip("\n")
         joint = "\n" if "\n" in text and not text.startswith("\n") and re.match(r"\s*let ", text) else " "
@@ -264,9 +399,12 @@ def answers(f, decls, said):
 def answer_text(f, place, params, body, helpers, unf, said, depth=0):
     t = Turn(f, place, params[0])
     text = t.text(body, helpers)
+    text = text if depth else text.replace("\x01", "")
     lets = ""
     for h in t.used:
         lets += helper_let(f, place, h, helpers, unf, said, depth)
+    if lets:
+        text = text.strip("\n").lstrip().replace("\n", "\n    ")
     return lets + text
 
 
@@ -286,20 +424,21 @@ def helper_let(f, place, h, helpers, unf, said, depth):
         said.append(f"helper {h} has a where")
     var, typ = m[1], m[2]
     params, body = got
-    typ = answer_text(f, place, [var], typ, {}, unf, said)
+    typ = answer_text(f, place, [var], typ, {}, unf, said).replace("\x01", "")
     inner = answer_text(f, place, params, body, helpers, unf, said, depth + 1)
     if params[1:]:
         inner = "λ " + " ".join(params[1:]) + ". " + inner.strip()
-    return f"let {h} : {' '.join(typ.split())} =\n    {inner.strip()} in\n    "
+    return f"let {h} : {' '.join(typ.split())} =\n    {inner.strip()} in\n    ".replace("\x01", "")
 
 
 def convert(path, key, data, crate):
     said = []
     text = open(path).read()
     uses, head, decls = blocks(text)
-    f = Function(data, said)
     folder = os.path.dirname(path)
     module = os.path.relpath(folder, os.path.join(TOP, "crates", crate, "proofs")).replace("/", ".")
+    f = Function(data, said, os.path.join(GENERATED, f"Rattle-{crate}-proofs", *module.split("."), "Lts.antt"))
+    f.crate = crate
     found = {b["name"]: b for b in decls if b["name"]}
     kept_uses = [u for u in uses if not re.search(r"\.(Statement\.\{statement\}|Tie as tie)$", u)]
     wrote = []
@@ -309,9 +448,35 @@ def convert(path, key, data, crate):
             o.write("\n".join(head + kept_uses + [f"use Rattle.{crate}.proofs.{module}.Given as goal", ""] + ["\n\n".join(inv), ""]))
         wrote.append("Invariants")
     kept, rows = answers(f, decls, said)
+    shared = []
+    if inv:
+        kinds = "\n".join(inv)
+        again = True
+        while again:
+            again = False
+            for b in decls:
+                text_of = b["name"] and "\n".join(b["sig"] + b["unf"] + b["body"])
+                if b["name"] and b["name"] not in shared and "tie." not in text_of and re.search(r"(?<![^\s(){};,.])" + re.escape(b["name"]) + r"(?![^\s(){};,.])", kinds):
+                    shared.append(b["name"])
+                    kinds += "\n" + text_of
+                    again = True
+    if shared:
+        parts = []
+        for b in decls:
+            if b["name"] in shared:
+                sig = list(b["sig"])
+                if not re.match(r"(abbrev )?pub ", sig[0]):
+                    sig[0] = "abbrev pub " + sig[0][7:] if sig[0].startswith("abbrev ") else "pub " + sig[0]
+                parts.append("\n".join(b["notes"] + sig + b["unf"] + b["body"]))
+        kept = [k for k in kept if not any(k == "\n".join(b["notes"] + b["sig"] + b["unf"] + b["body"]) for b in decls if b["name"] in shared)]
+        with open(os.path.join(folder, "Invariants.antt"), "w") as o:
+            o.write("\n".join(head + kept_uses + [f"use Rattle.{crate}.proofs.{module}.Given as goal", ""] + ["\n\n".join(parts + inv), ""]))
+        kept_uses = kept_uses + [f"use Rattle.{crate}.proofs.{module}.Invariants.{{{', '.join(shared)}}}"]
     if rows:
         with open(os.path.join(folder, "Answers.antt"), "w") as o:
-            o.write("\n".join(([] if inv else head) + kept_uses + [f"use Rattle.{crate}.proofs.{module}.Goals as goal", ""] + ["\n\n".join(kept + rows), ""]))
+            o.write("\n".join(([] if inv else head) + kept_uses
+                + ([f"use Rattle.{crate}.proofs.{module}.Goals.{{{', '.join(sorted(f.imports))}}}"] if f.imports else [])
+                + [f"use Rattle.{crate}.proofs.{module}.Goals as goal", ""] + ["\n\n".join(kept + rows), ""]))
         wrote.append("Answers")
     os.remove(path)
     print(f"{module}: {' '.join(wrote) or 'nothing needed'}")
@@ -320,6 +485,9 @@ def convert(path, key, data, crate):
 
 
 def main(argv):
+    global GENERATED, REQUIRED
+    REQUIRED = required()
+    GENERATED = os.path.dirname(argv[0])
     data = json.load(open(argv[0]))
     crate = argv[1]
     base = os.path.join(TOP, "crates", crate, "proofs")

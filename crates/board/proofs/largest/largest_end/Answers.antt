@@ -1,0 +1,21 @@
+use Prim.Native.Nat.{◌≤◌, ◌-◌}
+use mathlib.Core.Logic.{⊎_elim}
+use native.Mathlib.Omega.{arith}
+use borrow.Author.Rules.{rules}
+use lib.ListN.{length}
+use Rattle.board.specs.Bounds.{Bounded, entry}
+use Rattle.board.proofs.Bounding.{bounded_none, bounded_more, bounded_whole}
+use Rattle.board.proofs.largest.largest_end.Goals.{else-end-top, then-end-top}
+use Rattle.board.proofs.largest.largest_end.Goals as goal
+
+pub loop-i-init : goal.loop-i-init
+loop-i-init c = (search rules, bounded_none _ _)
+
+pub loop-i-preserved : goal.loop-i-preserved
+loop-i-preserved c = (
+  search rules,
+  elim c.if-end-top.branch [ then-end-top w ↦ bounded_more c.loop-i.invariant.1 (omega (arith, w.if-end-top.true, w.top-is)) (omega (arith, w.top-is)) | else-end-top w ↦ bounded_more c.loop-i.invariant.1 (omega (arith, w.top-is)) (omega (arith, w.if-end-top.false, w.top-is)) ],
+)
+
+pub returns : goal.returns
+returns c = bounded_whole _ c.loop-i.invariant.1 c.loop-i-test.false

@@ -1,0 +1,8 @@
+-- `board::masks::alone` meets its contract. Assumes nothing.
+use native.Mathlib.Omega.{arith}
+use borrow.Author.Rules.{rules}
+use lib.Pow.{pow-lt}
+use Rattle.board.proofs.masks.alone.Goals as goal
+
+pub returns : goal.returns
+returns c = omega (arith, pow-lt c.requires)
