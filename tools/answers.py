@@ -239,11 +239,42 @@ class Turn:
         old = None
         while old != body:
             old = body
-            body = re.sub(r"(^|[\s(])let ([^\s:=()]+) = (" + WORD + r") in(?:\n[ ]*| |$)", alias, body, count=0)
+            body = re.sub(r"(?:^|(?<=[\s(]))()let ([^\s:=()]+) = (" + WORD + r") in(?:\n[ ]*| |$)", alias, body, count=0)
         for h in helpers:
             body = re.sub(r"\(" + re.escape(h) + r" (" + WORD + r")\)", lambda m: self.helper(h, m), body)
             body = re.sub(r"(?<![^\s(){};,])" + re.escape(h) + r" (" + WORD + r")", lambda m: self.helper(h, m), body)
-        return re.sub(WORD, lambda m: self.path(m[0]), self.ways(body))
+        body = self.ways(self.elims(body))
+        return re.sub(WORD + r"(?= =\s)?", lambda m: m[0] if "." not in m[0] and re.match(r" =\s", body[m.end():]) else self.path(m[0]), body)
+
+    def elims(self, body):
+        """The same of an `elim` by inl and inr."""
+        m = re.search(r"elim (" + WORD + r")\.branch \[", body)
+        if not m:
+            return body
+        depth, at = 0, m.end() - 1
+        for k in range(at, len(body)):
+            depth += (body[k] in "({[") - (body[k] in ")}]")
+            if depth == 0:
+                break
+        flat = self.f.flat(self.place, self.alias[m[1].split(".")[0]] + m[1].split(".")[1:]) if m[1].split(".")[0] in self.alias else None
+        kinds = self.f.ways.get(flat[-1]) if flat else None
+        arms, depth, last = [], 0, at + 1
+        for i in range(at + 1, k):
+            depth += (body[i] in "({[") - (body[i] in ")}]")
+            if body[i] == "|" and depth == 0:
+                arms.append(body[last:i])
+                last = i + 1
+        arms = [a.strip() for a in arms + [body[last:k]] if a.strip()]
+        got = [re.fullmatch(r"(inl|inr) (\S+) ↦\s(.*)", a, re.S) for a in arms]
+        if not kinds or len(kinds) != len(arms) or not all(got):
+            self.f.said.append(f"elim of {m[1]} by hand")
+            return body[:m.end()] + self.elims(body[m.end():])
+        out = []
+        for g, (ctor, fields) in zip(got, kinds):
+            inside = re.sub(WORD, lambda w: self.field(w[0], g[2], fields), self.elims(g[3]))
+            out.append(f"{ctor} {g[2]} ↦ {inside}")
+            self.f.imports.add(ctor)
+        return body[:m.start()] + "elim " + ".".join(["\x01c"] + flat + ["branch"]) + " [ " + " | ".join(out) + " ]" + self.elims(body[k + 1:])
 
     def ways(self, body):
         """An elimination of what branch was taken, by the constructors and the fields that the check makes for it."""
@@ -265,7 +296,7 @@ class Turn:
             return body[:at + 7] + self.ways(body[at + 7:])
         arms = []
         for text, (ctor, fields) in zip((one, two), kinds):
-            m = re.fullmatch(r"\(λ (\S+)\. (.*)\)", text, re.S)
+            m = re.fullmatch(r"\(λ (\S+)\.\s(.*)\)", text, re.S)
             if not m:
                 self.f.said.append(f"a way of {inner} is no λ: {text[:60]}")
                 return body[:at + 7] + self.ways(body[at + 7:])
