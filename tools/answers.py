@@ -219,6 +219,7 @@ class Turn:
         self.f, self.place = f, place
         self.alias = {var: []}
         self.used = []
+        self.last = {}
 
     def path(self, word):
         parts = word.split(".")
@@ -271,7 +272,9 @@ class Turn:
             return body[:m.end()] + self.elims(body[m.end():])
         out = []
         for g, (ctor, fields) in zip(got, kinds):
-            inside = re.sub(WORD, lambda w: self.field(w[0], g[2], fields), self.elims(g[3]))
+            inside = self.elims(g[3])
+            self.lasts(g[2], inside)
+            inside = re.sub(WORD, lambda w: self.field(w[0], g[2], fields), inside)
             out.append(f"{ctor} {g[2]} ↦ {inside}")
             self.f.imports.add(ctor)
         return body[:m.start()] + "elim " + ".".join(["\x01c"] + flat + ["branch"]) + " [ " + " | ".join(out) + " ]" + self.elims(body[k + 1:])
@@ -301,11 +304,34 @@ class Turn:
                 self.f.said.append(f"a way of {inner} is no λ: {text[:60]}")
                 return body[:at + 7] + self.ways(body[at + 7:])
             var, inside = m[1], self.ways(m[2])
+            self.lasts(var, inside)
             inside = re.sub(WORD, lambda w: self.field(w[0], var, fields), inside)
             arms.append(f"{ctor} {var} ↦ {inside}")
             self.f.imports.add(ctor)
         path = ".".join(["\x01c"] + flat + ["branch"])
         return body[:at] + f"elim {path} [ " + " | ".join(arms) + " ]" + self.ways(body[k:])
+
+    def lasts(self, var, text):
+        found = [int(m[1]) for m in re.finditer(r"(?<![^\s(){};,])" + re.escape(var) + r"\.(\d+)(?![^\s(){};,])", text)]
+        if found:
+            self.last[var] = max(found)
+
+    def chosen(self, parts, fields):
+        """The field at a position of a tuple that may have lacked some of today's fields."""
+        if not parts[1].isdigit():
+            return None
+        n = int(parts[1])
+        if len(parts) == 2:
+            fits = [f for f in fields if f.endswith("-is")]
+            last = self.last.get(parts[0], n)
+            k = len(fits) - 1 - (last - n)
+            return fits[k] if 0 <= k < len(fits) else (fields[n] if n < len(fields) else None)
+        kind = {"ensures": r"(?!if-|then-|else-|struct_|way_|loop-|in-|in_|t\d|\S*-is$)", "new": r"(?!if-|then-|struct_|way_)", "taken": r"if-|then-|else-", "left": r"if-|then-|else-", "true": r"if-|then-|else-", "false": r"if-|then-|else-"}.get(parts[2])
+        order = sorted(range(len(fields)), key=lambda i: (abs(i - n), i < n))
+        for i in order:
+            if kind is None or re.match(kind, fields[i]):
+                return fields[i]
+        return None
 
     def field(self, word, var, fields):
         parts = word.split(".")
@@ -314,10 +340,11 @@ class Turn:
         if len(fields) == 1 and not (len(parts) > 1 and parts[1] == "0"):
             rest = parts[1:]
         else:
-            if not parts[1].isdigit() or int(parts[1]) >= len(fields):
+            chosen = self.chosen(parts, fields)
+            if not chosen:
                 self.f.said.append(f"{word} has no field in {fields}")
                 return word
-            fields, rest = [fields[int(parts[1])]], parts[2:]
+            fields, rest = [chosen], parts[2:]
         turned = {"taken": "true", "left": "false"}
         rest = [turned.get(rest[0], rest[0])] + rest[1:] if rest else rest
         for p, (old, new) in self.f.places.own.items():
