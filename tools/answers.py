@@ -29,6 +29,7 @@ class Place:
         self.arm = {}
         self.new = {}
         self.fields = {}
+        self.callee = {}
         for row, new, arm in zip(rows, by_name, arms):
             old, parent, (a, b) = row[0], row[1], row[2]
             self.parent.setdefault(old, parent)
@@ -36,6 +37,7 @@ class Place:
             self.arm.setdefault(old, arm)
             self.new.setdefault(old, new)
             self.fields.setdefault(old, dict(row[4]))
+            self.callee.setdefault(old, row[3])
 
     def chain(self, p):
         while p:
@@ -98,9 +100,12 @@ class Function:
     def __init__(self, data, said, lts):
         self.ways = ways_of(lts)
         self.imports = set()
+        self.same = set()
         self.places = Place(data["places"], data["places_by_name"], data["arms"])
         self.needs = {plain(a): (b, at[0]) for (a, b), at in zip(data["needs"], data["asked_at"])}
         self.settled = {plain(s) for s in data["settled"]}
+        self.params = data["params"]
+        self.calls = {row[2][1] for row in data["places"] if row[3]}
         self.pre = data["pre"]
         self.loops = data["loops"]
         self.changed = data["changed"]
@@ -112,6 +117,9 @@ class Function:
         if not fields:
             return None
         head, rest = fields[0], fields[1:]
+        if head == "pre":
+            head = "requires"
+            fields = [head] + rest
         if head == "requires" and self.pre and rest and rest[0].isdigit():
             i, last = 0, len(self.pre["fields"]) - 1
             while i < last and rest and rest[0] == "1":
@@ -119,6 +127,8 @@ class Function:
             if i < last and rest and rest[0] == "0":
                 rest = rest[1:]
             return ["requires", self.pre["fields"][i]] + rest
+        if head == "args" and rest:
+            return [head] + [r.replace("-", "_") for r in rest]
         if head in ("args", "requires"):
             return fields
         for p in self.places.chain(place):
@@ -132,8 +142,18 @@ class Function:
                 if best:
                     return [arm[0], best[0]] + rest[len(best[1]):]
             if old and plain(old) == plain(re.sub(r"_lem(?=\d*$)", "", head)):
+                if rest and rest[0] == "new" and self.params.get(self.places.callee[p]):
+                    names = self.params[self.places.callee[p]]
+                    i, tail = 0, rest[1:]
+                    while i < len(names) - 1 and tail and tail[0] == "1":
+                        i, tail = i + 1, tail[1:]
+                    if i < len(names) - 1 and tail and tail[0] == "0":
+                        tail = tail[1:]
+                    rest = ["new", names[i]] + tail
                 if rest:
                     rest = [self.places.fields[p].get(rest[0], rest[0])] + rest[1:]
+                    if plain(old).startswith("loop") and not rest[0].endswith(("-fits", "-is", "-bits")):
+                        rest[0] = rest[0].replace("-", "_")
                 return [new] + rest
         self.said.append(f"no step {head} at {place}")
         return ["?" + head] + rest
@@ -193,7 +213,7 @@ def blocks(text):
 def clause(block):
     """Parameters and text of a block of one clause."""
     text = "\n".join(block["body"])
-    m = re.match(r"\S+((?: " + WORD + r"| \([^()]*\))*) =\s?", text)
+    m = re.match(r"\S+((?: " + WORD + r"| \([^()]*\))*?) =(?:\s|$)", text)
     if not m:
         return None
     return m[1].split(), text[m.end():]
@@ -223,7 +243,7 @@ class Turn:
 
     def path(self, word):
         parts = word.split(".")
-        if parts[0] not in self.alias or "" in parts:
+        if parts[0] not in self.alias or "" in parts or word == "at":
             return word
         flat = self.f.flat(self.place, self.alias[parts[0]] + parts[1:])
         return ".".join(["c"] + flat) if flat else "c"
@@ -240,12 +260,39 @@ class Turn:
         old = None
         while old != body:
             old = body
+            for n in self.f.same:
+                body = re.sub(r"\(" + re.escape(n) + r" (" + WORD + r")\)", lambda m: m[1], body)
+                body = re.sub(r"(?<![^\s(){};,])" + re.escape(n) + r" (" + WORD + r")", lambda m: m[1], body)
             body = re.sub(r"(?:^|(?<=[\s(]))()let ([^\s:=()]+) = (" + WORD + r") in(?:\n[ ]*| |$)", alias, body, count=0)
         for h in helpers:
             body = re.sub(r"\(" + re.escape(h) + r" (" + WORD + r")\)", lambda m: self.helper(h, m), body)
             body = re.sub(r"(?<![^\s(){};,])" + re.escape(h) + r" (" + WORD + r")", lambda m: self.helper(h, m), body)
         body = self.ways(self.elims(body))
         return re.sub(WORD + r"(?= =\s)?", lambda m: m[0] if "." not in m[0] and re.match(r" =\s", body[m.end():]) else self.path(m[0]), body)
+
+    def arms_of(self, text):
+        """The variables and the texts of the arms by inl and inr, those of an `elim` within the last among them."""
+        arms, depth, last = [], 0, 0
+        for i, c in enumerate(text):
+            depth += (c in "({[") - (c in ")}]")
+            if c == "|" and depth == 0:
+                arms.append(text[last:i])
+                last = i + 1
+        arms = [a.strip() for a in arms + [text[last:]] if a.strip()]
+        out = []
+        for a in arms:
+            g = re.fullmatch(r"(inl|inr) (\S+) ↦\s(.*)", a, re.S)
+            if not g:
+                return None
+            inner = re.fullmatch(r"\s*elim " + re.escape(g[2]) + r" \[(.*)\]\s*", g[3], re.S)
+            if inner:
+                more = self.arms_of(inner[1])
+                if not more:
+                    return None
+                out += more
+            else:
+                out.append((g[2], g[3]))
+        return out
 
     def elims(self, body):
         """The same of an `elim` by inl and inr."""
@@ -259,23 +306,16 @@ class Turn:
                 break
         flat = self.f.flat(self.place, self.alias[m[1].split(".")[0]] + m[1].split(".")[1:]) if m[1].split(".")[0] in self.alias else None
         kinds = self.f.ways.get(flat[-1]) if flat else None
-        arms, depth, last = [], 0, at + 1
-        for i in range(at + 1, k):
-            depth += (body[i] in "({[") - (body[i] in ")}]")
-            if body[i] == "|" and depth == 0:
-                arms.append(body[last:i])
-                last = i + 1
-        arms = [a.strip() for a in arms + [body[last:k]] if a.strip()]
-        got = [re.fullmatch(r"(inl|inr) (\S+) ↦\s(.*)", a, re.S) for a in arms]
-        if not kinds or len(kinds) != len(arms) or not all(got):
+        got = self.arms_of(body[at + 1:k])
+        if not kinds or not got or len(kinds) != len(got):
             self.f.said.append(f"elim of {m[1]} by hand")
             return body[:m.end()] + self.elims(body[m.end():])
         out = []
         for g, (ctor, fields) in zip(got, kinds):
-            inside = self.elims(g[3])
-            self.lasts(g[2], inside)
-            inside = re.sub(WORD, lambda w: self.field(w[0], g[2], fields), inside)
-            out.append(f"{ctor} {g[2]} ↦ {inside}")
+            inside = self.elims(g[1])
+            self.lasts(g[0], inside)
+            inside = re.sub(WORD, lambda w: self.field(w[0], g[0], fields), inside)
+            out.append(f"{ctor} {g[0]} ↦ {inside}")
             self.f.imports.add(ctor)
         return body[:m.start()] + "elim " + ".".join(["\x01c"] + flat + ["branch"]) + " [ " + " | ".join(out) + " ]" + self.elims(body[k + 1:])
 
@@ -293,12 +333,21 @@ class Turn:
         if inner.endswith(".branch") and " " not in inner and inner.split(".")[0] in self.alias:
             flat = self.f.flat(self.place, self.alias[inner.split(".")[0]] + inner.split(".")[1:-1])
             kinds = self.f.ways.get(flat[-1]) if flat else None
-        if not kinds or len(kinds) != 2:
+        texts = [one]
+        while kinds and len(texts) < len(kinds) - 1:
+            m = re.fullmatch(r"\(\s*⊎_elim\s(.*)\)", two, re.S) or re.fullmatch(r"\(λ \S+\.\s*⊎_elim\s(.*?)\s\S+\)", two, re.S)
+            if not m:
+                break
+            first, i2 = argument(m[1], 0)
+            two, _ = argument(m[1], i2)
+            texts.append(first)
+        texts.append(two)
+        if not kinds or len(kinds) != len(texts):
             if inner.endswith(".branch"):
                 self.f.said.append(f"ways of {inner} by hand: {kinds and len(kinds)}")
             return body[:at + 7] + self.ways(body[at + 7:])
         arms = []
-        for text, (ctor, fields) in zip((one, two), kinds):
+        for text, (ctor, fields) in zip(texts, kinds):
             m = re.fullmatch(r"\(λ (\S+)\.\s(.*)\)", text, re.S)
             if not m:
                 self.f.said.append(f"a way of {inner} is no λ: {text[:60]}")
@@ -329,6 +378,8 @@ class Turn:
         kind = {"ensures": r"(?!if-|then-|else-|struct_|way_|loop-|in-|in_|t\d|\S*-is$)", "new": r"(?!if-|then-|struct_|way_)", "taken": r"if-|then-|else-", "left": r"if-|then-|else-", "true": r"if-|then-|else-", "false": r"if-|then-|else-"}.get(parts[2])
         order = sorted(range(len(fields)), key=lambda i: (abs(i - n), i < n))
         for i in order:
+            if parts[2] in ("ensures", "new", "result") and fields[i] not in self.f.calls:
+                continue
             if kind is None or re.match(kind, fields[i]):
                 return fields[i]
         return None
@@ -380,7 +431,11 @@ def invariants(f, found, key, said):
             if len(params) != len(wanted):
                 said.append(f"{kind}-{old}: {len(params)} parameters for {len(wanted)}: {params} {wanted}")
             to = dict(zip(params, wanted))
-            body = re.sub(WORD, lambda m: ".".join([to.get(m[0].split(".")[0], m[0].split(".")[0])] + m[0].split(".")[1:]), body)
+            for binder in re.findall(r"λ ([^.()]+)\. ", body):
+                for v in binder.split():
+                    if v in to:
+                        said.append(f"{kind}-{old}: {v} is bound again")
+            body = re.sub(WORD, lambda m: m[0] if m[0].endswith(".") else ".".join([to.get(m[0].split(".")[0], m[0].split(".")[0])] + m[0].split(".")[1:]), body)
             rows += ["\n".join(b["notes"])] if b["notes"] else []
             rows.append("\n".join([f"abbrev pub {kind}-{new} : goal.{kind}-{new}"] + b["unf"] + [f"{kind}-{new} l = {body}"]))
     return rows
@@ -393,7 +448,12 @@ def trivial(body):
 def answers(f, decls, said):
     helpers = {}
     for b in decls:
-        if b["name"] and re.search(r":\s*(?:\n\s*)?\(\w+ : tie\.", "\n".join(b["sig"])):
+        if b["name"] and re.search(r":\s*(?:\(\w+ : )?tie\.[^→]*→\s*tie\.\S[^→]*$", "\n".join(b["sig"])) and clause(b) and re.fullmatch(r"\s*(?:let [^()]*? in\s+)*\(?[^\s]+(?: [^\s]+)?\s*", clause(b)[1]):
+            f.same.add(b["name"])
+    for b in decls:
+        if b["name"] in f.same:
+            continue
+        if b["name"] and re.search(r":\s*(?:\n\s*)?(?:\(\w+ : )?tie\.(?!Need)[^→]*→", "\n".join(b["sig"])):
             helpers[b["name"]] = b
     rows, kept = [], []
     for b in decls:
@@ -407,7 +467,7 @@ def answers(f, decls, said):
             continue
         if re.match(r"(invariant|decreases)-", b["name"]):
             continue
-        if b["name"] in helpers:
+        if b["name"] in helpers or b["name"] in f.same:
             continue
         if not m:
             kept.append("\n".join(b["notes"] + b["sig"] + b["unf"] + b["body"]))
@@ -472,7 +532,7 @@ def helper_let(f, place, h, helpers, unf, said, depth):
         said.append(f"helper {h} too deep")
         return ""
     sig = "\n".join(b["sig"])
-    m = re.search(r":\s*\((\w+) : tie\.[^()]*\)\s*→\s*(.*)$", sig, re.S)
+    m = re.search(r":\s*\((\w+) : tie\.[^()]*\)\s*→\s*(.*)$", sig, re.S) or re.search(r":\s*()tie\.[^→]*→\s*(.*)$", sig, re.S)
     got = clause(b)
     if not m or not got:
         said.append(f"helper {h} is to be done by hand")
@@ -482,7 +542,7 @@ def helper_let(f, place, h, helpers, unf, said, depth):
         said.append(f"helper {h} has a where")
     var, typ = m[1], m[2]
     params, body = got
-    typ = answer_text(f, place, [var], typ, {}, unf, said).replace("\x01", "")
+    typ = answer_text(f, place, [var or "c"], typ, {}, unf, said).replace("\x01", "")
     inner = answer_text(f, place, params, body, helpers, unf, said, depth + 1)
     if params[1:]:
         inner = "λ " + " ".join(params[1:]) + ". " + inner.strip()
