@@ -45,8 +45,8 @@ class Place:
             p = self.parent.get(p)
 
 
-def required():
-    """The names of the clauses of each function that requires more than one."""
+def required(word):
+    """The names of the clauses of each function that requires, or ensures, more than one."""
     found = {}
     for folder, dirs, files in os.walk(os.path.join(TOP, "crates")):
         dirs[:] = [d for d in dirs if d != "out"]
@@ -54,7 +54,7 @@ def required():
             if n.endswith(".rt"):
                 text = open(os.path.join(folder, n), encoding="utf-8").read()
                 for m in re.finditer(r"\bfn (\w+)(.*?)(?=\bfn |\Z)", text, re.S):
-                    names = re.findall(r"(?m)^\s+requires (\w+) \{", m[2])
+                    names = re.findall(r"(?m)^\s+" + word + r" (\w+) \{", m[2])
                     if len(names) > 1:
                         found[m[1]] = names
                         found[os.path.relpath(folder, os.path.join(TOP, "crates")).split("/")[0], m[1]] = names
@@ -101,6 +101,7 @@ class Function:
         self.ways = ways_of(lts)
         self.imports = set()
         self.same = set()
+        self.values = {}
         self.places = Place(data["places"], data["places_by_name"], data["arms"])
         self.needs = {plain(a): (b, at[0]) for (a, b), at in zip(data["needs"], data["asked_at"])}
         self.settled = {plain(s) for s in data["settled"]}
@@ -142,12 +143,16 @@ class Function:
                 if best:
                     return [arm[0], best[0]] + rest[len(best[1]):]
             if old and plain(old) == plain(re.sub(r"_lem(?=\d*$)", "", head)):
+                if rest and re.match(r"if\d|loop_?test|loop-test", old):
+                    rest = [{"taken": "true", "left": "false"}.get(rest[0], rest[0])] + rest[1:]
+                if rest and rest[0] in ("inv", "came"):
+                    rest = [{"inv": "invariant", "came": "branch"}[rest[0]]] + rest[1:]
                 if rest and rest[0] == "new" and self.params.get(self.places.callee[p]):
                     names = self.params[self.places.callee[p]]
                     i, tail = 0, rest[1:]
                     while i < len(names) - 1 and tail and tail[0] == "1":
                         i, tail = i + 1, tail[1:]
-                    if i < len(names) - 1 and tail and tail[0] == "0":
+                    if tail and tail[0] == "0":
                         tail = tail[1:]
                     rest = ["new", names[i]] + tail
                 if rest:
@@ -240,6 +245,7 @@ class Turn:
         self.alias = {var: []}
         self.used = []
         self.last = {}
+        self.called = {}
 
     def path(self, word):
         parts = word.split(".")
@@ -263,10 +269,18 @@ class Turn:
             for n in self.f.same:
                 body = re.sub(r"\(" + re.escape(n) + r" (" + WORD + r")\)", lambda m: m[1], body)
                 body = re.sub(r"(?<![^\s(){};,])" + re.escape(n) + r" (" + WORD + r")", lambda m: m[1], body)
+            for n, b in self.f.values.items():
+                if not re.search(r"(?<![^\s(){};,])" + re.escape(n) + r" ", body):
+                    continue
+                inner = answer_text(self.f, self.place, clause(b)[0], clause(b)[1], {}, [], self.f.said).strip()
+                inner = re.sub(r"(?<![^\s(){};,])c\.", "\x01c.", inner)
+                one = re.fullmatch(WORD, inner)
+                body = re.sub(r"\(" + re.escape(n) + r" (" + WORD + r")\)(?!\.)", lambda m: inner if one else "(" + inner + ")", body)
+                body = re.sub(r"\(" + re.escape(n) + r" (" + WORD + r")\)(?=\.)", lambda m: "(" + inner + ")", body)
+                body = re.sub(r"(?<![^\s(){};,])" + re.escape(n) + r" (" + WORD + r")", lambda m: inner if one else "(" + inner + ")", body)
             body = re.sub(r"(?:^|(?<=[\s(]))()let ([^\s:=()]+) = (" + WORD + r") in(?:\n[ ]*| |$)", alias, body, count=0)
         for h in helpers:
-            body = re.sub(r"\(" + re.escape(h) + r" (" + WORD + r")\)", lambda m: self.helper(h, m), body)
-            body = re.sub(r"(?<![^\s(){};,])" + re.escape(h) + r" (" + WORD + r")", lambda m: self.helper(h, m), body)
+            body = re.sub(r"\(" + re.escape(h) + r" (" + WORD + r")\)|(?<![^\s(){};,])" + re.escape(h) + r" (" + WORD + r")", lambda m: self.helper(h, m), body)
         body = self.ways(self.elims(body))
         return re.sub(WORD + r"(?= =\s)?", lambda m: m[0] if "." not in m[0] and re.match(r" =\s", body[m.end():]) else self.path(m[0]), body)
 
@@ -364,6 +378,7 @@ class Turn:
         found = [int(m[1]) for m in re.finditer(r"(?<![^\s(){};,])" + re.escape(var) + r"\.(\d+)(?![^\s(){};,])", text)]
         if found:
             self.last[var] = max(found)
+        self.called[var] = sorted({int(m[1]) for m in re.finditer(r"(?<![^\s(){};,])" + re.escape(var) + r"\.(\d+)\.(?:ensures|new|result)", text)})
 
     def chosen(self, parts, fields):
         """The field at a position of a tuple that may have lacked some of today's fields."""
@@ -376,6 +391,9 @@ class Turn:
             k = len(fits) - 1 - (last - n)
             return fits[k] if 0 <= k < len(fits) else (fields[n] if n < len(fields) else None)
         kind = {"ensures": r"(?!if-|then-|else-|struct_|way_|loop-|in-|in_|t\d|\S*-is$)", "new": r"(?!if-|then-|struct_|way_)", "taken": r"if-|then-|else-", "left": r"if-|then-|else-", "true": r"if-|then-|else-", "false": r"if-|then-|else-"}.get(parts[2])
+        calls = [f for f in fields if f in self.f.calls]
+        if parts[2] in ("ensures", "new", "result") and len(calls) == len(self.called.get(parts[0], [])) and n in self.called[parts[0]]:
+            return calls[self.called[parts[0]].index(n)]
         order = sorted(range(len(fields)), key=lambda i: (abs(i - n), i < n))
         for i in order:
             if parts[2] in ("ensures", "new", "result") and fields[i] not in self.f.calls:
@@ -405,7 +423,7 @@ class Turn:
         return ".".join(["\x01" + var, fields[0]] + rest)
 
     def helper(self, h, m):
-        parts = m[1].split(".")
+        parts = (m[1] or m[2]).split(".")
         if parts[0] not in self.alias:
             return m[0]
         if h not in self.used:
@@ -448,10 +466,13 @@ def trivial(body):
 def answers(f, decls, said):
     helpers = {}
     for b in decls:
-        if b["name"] and re.search(r":\s*(?:\(\w+ : )?tie\.[^→]*→\s*tie\.\S[^→]*$", "\n".join(b["sig"])) and clause(b) and re.fullmatch(r"\s*(?:let [^()]*? in\s+)*\(?[^\s]+(?: [^\s]+)?\s*", clause(b)[1]):
+        if b["name"] and re.search(r":\s*(?:\n\s*)?(?:\(\w+ : )?tie\.(?!Need)[^→]*→\s*tie\.\S[^→]*$", "\n".join(b["sig"])):
             f.same.add(b["name"])
     for b in decls:
         if b["name"] in f.same:
+            continue
+        if b["name"] and clause(b) and len(clause(b)[0]) == 1 and re.search(r"^(?:(?:pub|abbrev) )*\S+ :\s*(?:\n\s*)?tie\.(?!Need)[^→]*→\s*[^→]*$", "\n".join(b["sig"])):
+            f.values[b["name"]] = b
             continue
         if b["name"] and re.search(r":\s*(?:\n\s*)?(?:\(\w+ : )?tie\.(?!Need)[^→]*→", "\n".join(b["sig"])):
             helpers[b["name"]] = b
@@ -467,7 +488,7 @@ def answers(f, decls, said):
             continue
         if re.match(r"(invariant|decreases)-", b["name"]):
             continue
-        if b["name"] in helpers or b["name"] in f.same:
+        if b["name"] in helpers or b["name"] in f.same or b["name"] in f.values:
             continue
         if not m:
             kept.append("\n".join(b["notes"] + b["sig"] + b["unf"] + b["body"]))
@@ -503,6 +524,15 @@ def answers(f, decls, said):
                 text = lead[1] + " record { " + "; ".join(f"{n} = {x}" for n, x in zip(names, parts)) + " }"
             else:
                 said.append(f"{new}: {len(parts)} parts for {names}")
+        promised = ENSURED.get((f.crate, f.module.split(".")[-1].lstrip("+"))) if new.startswith("returns") else None
+        if promised:
+            lead = re.match(r"((?:\s*let .*? in(?=\s))*)(.*)$", text, re.S)
+            parts = parts_of(lead[2])
+            if len(parts) == len(promised):
+                text = lead[1] + " record { " + "; ".join(f"{n} = {x}" for n, x in zip(promised, parts)) + " }"
+            elif not lead[2].strip().startswith("record"):
+                rest = " ".join(lead[2].split())
+                text = lead[1] + f" let all = {rest} in record {{ " + "; ".join(f"{n} = all.{i}" for i, n in enumerate(promised)) + " }"
         extra = "".join(" " + p for p in params[1:])
         text = text.strip("\n")
         joint = "\n" if "\n" in text and not text.startswith("\n") and re.match(r"\s*let ", text) else " "
@@ -542,7 +572,7 @@ def helper_let(f, place, h, helpers, unf, said, depth):
         said.append(f"helper {h} has a where")
     var, typ = m[1], m[2]
     params, body = got
-    typ = answer_text(f, place, [var or "c"], typ, {}, unf, said).replace("\x01", "")
+    typ = answer_text(f, place, [var or "c"], typ, helpers, unf, said, 3).replace("\x01", "")
     inner = answer_text(f, place, params, body, helpers, unf, said, depth + 1)
     if params[1:]:
         inner = "λ " + " ".join(params[1:]) + ". " + inner.strip()
@@ -556,7 +586,7 @@ def convert(path, key, data, crate):
     folder = os.path.dirname(path)
     module = os.path.relpath(folder, os.path.join(TOP, "crates", crate, "proofs")).replace("/", ".")
     f = Function(data, said, os.path.join(GENERATED, f"Rattle-{crate}-proofs", *module.split("."), "Lts.antt"))
-    f.crate = crate
+    f.crate, f.module = crate, module
     found = {b["name"]: b for b in decls if b["name"]}
     kept_uses = [u for u in uses if not re.search(r"\.(Statement\.\{statement\}|Tie as tie)$", u)]
     wrote = []
@@ -603,8 +633,8 @@ def convert(path, key, data, crate):
 
 
 def main(argv):
-    global GENERATED, REQUIRED
-    REQUIRED = required()
+    global GENERATED, REQUIRED, ENSURED
+    REQUIRED, ENSURED = required("requires"), required("ensures")
     GENERATED = os.path.dirname(argv[0])
     data = json.load(open(argv[0]))
     crate = argv[1]

@@ -67,7 +67,7 @@ loop-i-preserved c =
     end_in_range c.requires.ends_within c.loop-i.i c.loop-i-test.true in
     let place : c.loop-i.i < 2 * edge_limit =
     omega (arith, c.loop-i-test.true, c.requires.ends_within.two_ends, c.requires.ends_within.edges_limited) in
-    (rw add-one (list_one _ _ _ _ place vertex), search rules)
+    (rw add-one (list_one _ _ _ _ place vertex c.loop-i.invariant.0), search rules)
 
 pub returns : goal.returns
 returns c =

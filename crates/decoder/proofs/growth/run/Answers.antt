@@ -30,53 +30,33 @@ loop-growth-init c = (
 )
 
 pub next-following-requires : goal.next-following-requires
-next-following-requires c =
-    let start_of : tie.Start invariant-loop decreases-loop =
-    c in
-    choosable _ _ _ _ _ _ _ start_of.pre _ _ _ _ _ c.loop-growth.invariant.1
+next-following-requires c = choosable _ _ _ _ _ _ _ c.requires _ _ _ _ _ c.loop-growth.invariant.1
 
 pub shape_of-support-then-following : goal.shape_of-support-then-following
-shape_of-support-then-following c =
-    let start_of : tie.Start invariant-loop decreases-loop =
-    c in
-    omega (arith, c.loop-growth.inv.1.long, start_of.pre.long)
+shape_of-support-then-following c = omega (arith, c.loop-growth.invariant.1.long, c.requires.long)
 
 pub returns-then-following : goal.returns-then-following
-returns-then-following c =
-    let start_of : tie.Start invariant-loop decreases-loop =
-    c in
-    run_done _ _ _ _ _ _ _ start_of.pre _ _ _ _ _ c.loop-growth.inv.1 _ c.next-following.ensures c.if-following.true
+returns-then-following c = run_done _ _ _ _ _ _ _ c.requires _ _ _ _ _ c.loop-growth.invariant.1 _ c.next-following.ensures c.if-following.true
 
 pub grow-grown-requires : goal.grow-grown-requires
-grow-grown-requires c =
-    let start_of : tie.Start invariant-loop decreases-loop =
-    c in
-    growable _ _ _ _ _ _ _ start_of.pre _ _ _ _ _ c.loop-growth.inv.1 _ c.next-following.ensures c.if-following.false _ _ _
-    c.list_ends.ensures c.loop-growth.inv.0
+grow-grown-requires c = growable _ _ _ _ _ _ _ c.requires _ _ _ _ _ c.loop-growth.invariant.1 _ c.next-following.ensures c.if-following.false _ _ _
+    c.list_ends.ensures c.loop-growth.invariant.0
 
 pub overflow_add-count : goal.overflow_add-count
 overflow_add-count c =
-    let start_of : tie.Start invariant-loop decreases-loop =
-    c in
-    let more : c.loop-growth.count < 2 * length (start_of c).args.loss.now =
-    let start_of : tie.Start invariant-loop decreases-loop =
-    c in
-    growths_left _ _ _ _ _ _ _ start_of.pre _ _ _ _ _ c.loop-growth.inv.1 _ c.next-following.ensures c.if-following.false in
-    omega (arith, more, start_of.pre.lent.edges_limited)
+    let more : c.loop-growth.count < 2 * length c.args.loss.now =
+    growths_left _ _ _ _ _ _ _ c.requires _ _ _ _ _ c.loop-growth.invariant.1 _ c.next-following.ensures c.if-following.false in
+    omega (arith, more, c.requires.lent.edges_limited)
 
 pub loop-growth-smaller : goal.loop-growth-smaller
 loop-growth-smaller c =
-    let more : c.loop-growth.count < 2 * length (start_of c).args.loss.now =
-    let start_of : tie.Start invariant-loop decreases-loop =
-    c in
-    growths_left _ _ _ _ _ _ _ start_of.pre _ _ _ _ _ c.loop-growth.inv.1 _ c.next-following.ensures c.if-following.false in
+    let more : c.loop-growth.count < 2 * length c.args.loss.now =
+    growths_left _ _ _ _ _ _ _ c.requires _ _ _ _ _ c.loop-growth.invariant.1 _ c.next-following.ensures c.if-following.false in
     omega (arith, more)
 
 pub loop-growth-preserved : goal.loop-growth-preserved
-loop-growth-preserved c =
-    let start_of : tie.Start invariant-loop decreases-loop =
-    c in (
-      c.grow-grown.ensures.room,
-      rw add-one
-          (run_more _ _ _ _ _ _ _ start_of.pre _ _ _ _ _ c.loop-growth.inv.1 _ c.next-following.ensures c.if-following.left _ _ _ _ _ c.grow-grown.ensures),
-    )
+loop-growth-preserved c = (
+  c.grow-grown.ensures.room,
+  rw add-one
+      (run_more _ _ _ _ _ _ _ c.requires _ _ _ _ _ c.loop-growth.invariant.1 _ c.next-following.ensures c.if-following.false _ _ _ _ _ c.grow-grown.ensures),
+)

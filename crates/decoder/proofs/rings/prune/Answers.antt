@@ -57,21 +57,21 @@ bounds-exposure-v c =
 
 pub overflow_cast-ring : goal.overflow_cast-ring
 overflow_cast-ring c =
-    let kept_inside : c.loop-v.auto < vertex_limit =
+    let kept_inside : c.loop-v.kept < vertex_limit =
     let pre = c.requires in
     kept_below pre (c.loop-v.invariant pre) in
     record { fits = let h = kept_inside in omega (arith, h) }
 
 pub offset_bounds-ring-kept : goal.offset_bounds-ring-kept
 offset_bounds-ring-kept c =
-    let kept_inside : c.loop-v.auto < vertex_limit =
+    let kept_inside : c.loop-v.kept < vertex_limit =
     let pre = c.requires in
     kept_below pre (c.loop-v.invariant pre) in
     record { fits = let h = kept_inside in omega (arith, h) }
 
 pub bounds-ring-kept : goal.bounds-ring-kept
 bounds-ring-kept c =
-    let kept_inside : c.loop-v.auto < vertex_limit =
+    let kept_inside : c.loop-v.kept < vertex_limit =
     let pre = c.requires in
     kept_below pre (c.loop-v.invariant pre) in
     kept_inside

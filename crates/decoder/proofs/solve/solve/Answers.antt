@@ -12,13 +12,7 @@ pub returns-in-Failed : goal.returns-in-Failed
 returns-in-Failed c = refuses _ _ _ _ _ _ _ _ _ _ (ap test_of (sym c.in-Failed.is) ∙ c.check_decode.ensures)
 
 pub key-requires : goal.key-requires
-key-requires c =
-    let passed : let a = c.args in none ≡ decode_refusal (sheet_of (board_of a.vertices a.ends.now a.marks.now a.opened.now) a.syndrome.now a.loss.now) a.support.now a.correction.now =
-    ap test_of (sym c.in_default.is) ∙ c.check_decode.ensures in
-    keyable _ _ _ _ _ _ _ _ passed
+key-requires c = keyable _ _ _ _ _ _ _ _ (ap test_of (sym c.in_default.is) ∙ c.check_decode.ensures)
 
 pub returns : goal.returns
-returns c =
-    let passed : let a = c.args in none ≡ decode_refusal (sheet_of (board_of a.vertices a.ends.now a.marks.now a.opened.now) a.syndrome.now a.loss.now) a.support.now a.correction.now =
-    ap test_of (sym c.in_default.is) ∙ c.check_decode.ensures in
-    solves _ _ _ _ _ _ _ _ passed _ _ _ c.key.ensures
+returns c = solves _ _ _ _ _ _ _ _ (ap test_of (sym c.in_default.is) ∙ c.check_decode.ensures) c.args.growth _ _ _ c.key.ensures

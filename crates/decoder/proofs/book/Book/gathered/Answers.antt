@@ -33,21 +33,21 @@ second_end-y-requires c = omega (arith, c.loop-e-test.true, c.requires.lent.two_
 pub apart-requires : goal.apart-requires
 apart-requires c =
     let kept_at : BothKept c.loop-e.book c.first_end-x.result.0 c.second_end-y.result.0 =
-    gather_kept _ _ _ _ _ _ _ c.requires _ c.fresh-book.ensures _ c.loop-e-test.taken _ c.loop-e.inv.1.0 _ _
+    gather_kept _ _ _ _ _ _ _ c.requires _ c.fresh-book.ensures _ c.loop-e-test.true _ c.loop-e.invariant.1.0 _ _
     c.first_end-x.ensures c.second_end-y.ensures in
     both_rooted _ _ _ kept_at
 
 pub join_rings-requires : goal.join_rings-requires
 join_rings-requires c =
     let kept_at : BothKept c.loop-e.book c.first_end-x.result.0 c.second_end-y.result.0 =
-    gather_kept _ _ _ _ _ _ _ c.requires _ c.fresh-book.ensures _ c.loop-e-test.taken _ c.loop-e.inv.1.0 _ _
+    gather_kept _ _ _ _ _ _ _ c.requires _ c.fresh-book.ensures _ c.loop-e-test.true _ c.loop-e.invariant.1.0 _ _
     c.first_end-x.ensures c.second_end-y.ensures in
     both_named _ _ _ kept_at
 
 pub fuse-requires : goal.fuse-requires
 fuse-requires c =
     let kept_at : BothKept c.loop-e.book c.first_end-x.result.0 c.second_end-y.result.0 =
-    gather_kept _ _ _ _ _ _ _ c.requires _ c.fresh-book.ensures _ c.loop-e-test.taken _ c.loop-e.inv.1.0 _ _
+    gather_kept _ _ _ _ _ _ _ c.requires _ c.fresh-book.ensures _ c.loop-e-test.true _ c.loop-e.invariant.1.0 _ _
     c.first_end-x.ensures c.second_end-y.ensures in
     kept_at
 
@@ -63,7 +63,7 @@ loop-e-preserved c =
                   w.first_end-x.ensures w.second_end-y.ensures _ w.fuse.ensures.unites,
               joined_rings _ _ _
                   (gather_kept _ _ _ _ _ _ _ c.requires _ fresh _ c.loop-e-test.true _ now _ _ w.first_end-x.ensures w.second_end-y.ensures)
-                  _ w.apart.ensures w.if-apart.true _ _ _ w.fuse.ensures _ w.fuse.ensures.unites c.loop-e.invariant.1.1,
+                  _ w.apart.ensures w.if-apart.true _ _ _ w.join_rings.ensures _ w.fuse.ensures.unites c.loop-e.invariant.1.1,
             )
             | then-is_full+else-apart w ↦ rw (w.ring-is, w.book-is) (
               gather_full _ _ _ _ _ _ _ c.requires _ fresh _ c.loop-e-test.true _ now (sym c.is_full.ensures ∙ w.if-is_full.true) _ _

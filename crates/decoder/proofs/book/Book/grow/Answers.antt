@@ -27,160 +27,59 @@ pub raise-count-requires : goal.raise-count-requires
 raise-count-requires c = raisable c.args.self _ _ _ _ _ _ _ _ c.requires
 
 pub shut_listed-requires : goal.shut_listed-requires
-shut_listed-requires c =
-    let ringLeft : List ℕ =
-    c.raise-count.new.ring in
-    let supportLeft : List ℕ =
-    c.raise-count.new.support in
-    let filledLeft : List ℕ =
-    c.raise-count.new.filled.0 in
-    growable_listed c.args.self _ _ _ _ _ _ _ _ c.requires _ ringLeft supportLeft filledLeft
+shut_listed-requires c = growable_listed c.args.self _ _ _ _ _ _ _ _ c.requires _ c.raise-count.new.ring c.raise-count.new.support c.raise-count.new.filled c.raise-count.ensures
 
 pub loop-i-init : goal.loop-i-init
-loop-i-init c =
-    let ringLeft : List ℕ =
-    c.raise-count.new.ring in
-    let supportLeft : List ℕ =
-    c.raise-count.new.support in
-    let filledLeft : List ℕ =
-    c.raise-count.new.filled.0 in
-    let exposureLeft : List ℕ =
-    c.shut_listed.new.exposure in
-    let figureLeft : List ℕ =
-    c.shut_listed.new.figure.0 in (
-      search rules,
-      (
-        shut_begins c.args.self _ _ _ _ _ _ _ _ c.requires _ ringLeft supportLeft filledLeft
-            exposureLeft figureLeft,
-        shut_rings c.args.self _ _ _ _ _ _ _ _ c.requires _ ringLeft supportLeft filledLeft
-            exposureLeft figureLeft,
-      ),
-    )
+loop-i-init c = (
+  search rules,
+  (
+    shut_begins c.args.self _ _ _ _ _ _ _ _ c.requires _ c.raise-count.new.ring c.raise-count.new.support c.raise-count.new.filled c.raise-count.ensures
+        c.shut_listed.new.exposure c.shut_listed.new.figure c.shut_listed.ensures,
+    shut_rings c.args.self _ _ _ _ _ _ _ _ c.requires _ c.raise-count.new.ring c.raise-count.new.support c.raise-count.new.filled c.raise-count.ensures
+        c.shut_listed.new.exposure c.shut_listed.new.figure c.shut_listed.ensures,
+  ),
+)
 
 pub offset_bounds-filled-i : goal.offset_bounds-filled-i
-offset_bounds-filled-i c =
-    let few : c.raise-count.result ≤ edge_limit =
-    let ringLeft : List ℕ =
-    c.raise-count.new.ring in
-    let supportLeft : List ℕ =
-    c.raise-count.new.support in
-    let filledLeft : List ℕ =
-    c.raise-count.new.filled.0 in
-    few_listed c.args.self _ _ _ _ _ _ _ _ c.requires _ ringLeft supportLeft filledLeft in
-    let h = few in search rules
+offset_bounds-filled-i c = let h = (few_listed c.args.self _ _ _ _ _ _ _ _ c.requires _ c.raise-count.new.ring c.raise-count.new.support c.raise-count.new.filled c.raise-count.ensures) in search rules
 
 pub bounds-filled-i : goal.bounds-filled-i
-bounds-filled-i c =
-    let few : c.raise-count.result ≤ edge_limit =
-    let ringLeft : List ℕ =
-    c.raise-count.new.ring in
-    let supportLeft : List ℕ =
-    c.raise-count.new.support in
-    let filledLeft : List ℕ =
-    c.raise-count.new.filled.0 in
-    few_listed c.args.self _ _ _ _ _ _ _ _ c.requires _ ringLeft supportLeft filledLeft in
-    omega (arith, c.loop-i-test.true, few)
+bounds-filled-i c = omega (arith, c.loop-i-test.true, (few_listed c.args.self _ _ _ _ _ _ _ _ c.requires _ c.raise-count.new.ring c.raise-count.new.support c.raise-count.new.filled c.raise-count.ensures))
 
 pub first_end-a-requires : goal.first_end-a-requires
-first_end-a-requires c =
-    let listed-edge : get_or (filledLeft c) c.loop-i.i 0 < length c.args.support.now =
-    let ringLeft : List ℕ =
-    c.raise-count.new.ring in
-    let supportLeft : List ℕ =
-    c.raise-count.new.support in
-    let filledLeft : List ℕ =
-    c.raise-count.new.filled.0 in
-    (raised c.args.self _ _ _ _ _ _ _ _ c.requires _ ringLeft supportLeft filledLeft).edges _
-    c.loop-i-test.true in
-    omega (arith, listed-edge, c.requires.lent.two_ends)
+first_end-a-requires c = omega (
+  arith,
+  ((raised c.args.self _ _ _ _ _ _ _ _ c.requires _ c.raise-count.new.ring c.raise-count.new.support c.raise-count.new.filled c.raise-count.ensures).edges _
+      c.loop-i-test.true),
+  c.requires.lent.two_ends,
+)
 
 pub second_end-b-requires : goal.second_end-b-requires
-second_end-b-requires c =
-    let listed-edge : get_or (filledLeft c) c.loop-i.i 0 < length c.args.support.now =
-    let ringLeft : List ℕ =
-    c.raise-count.new.ring in
-    let supportLeft : List ℕ =
-    c.raise-count.new.support in
-    let filledLeft : List ℕ =
-    c.raise-count.new.filled.0 in
-    (raised c.args.self _ _ _ _ _ _ _ _ c.requires _ ringLeft supportLeft filledLeft).edges _
-    c.loop-i-test.true in
-    omega (arith, listed-edge, c.requires.lent.two_ends)
+second_end-b-requires c = omega (
+  arith,
+  ((raised c.args.self _ _ _ _ _ _ _ _ c.requires _ c.raise-count.new.ring c.raise-count.new.support c.raise-count.new.filled c.raise-count.ensures).edges _
+      c.loop-i-test.true),
+  c.requires.lent.two_ends,
+)
 
 pub apart-requires : goal.apart-requires
-apart-requires c =
-    let kept_at : BothKept (bookAt c) c.first_end-a.result.0 c.second_end-b.result.0 =
-    let ringLeft : List ℕ =
-    c.raise-count.new.ring in
-    let supportLeft : List ℕ =
-    c.raise-count.new.support in
-    let filledLeft : List ℕ =
-    c.raise-count.new.filled.0 in
-    let exposureLeft : List ℕ =
-    c.shut_listed.new.exposure in
-    let figureLeft : List ℕ =
-    c.shut_listed.new.figure.0 in
-    next_kept c.args.self _ _ _ _ _ _ _ _ c.requires _ ringLeft supportLeft filledLeft
-    exposureLeft figureLeft _ _ c.loop-i.inv.1.0 c.loop-i-test.taken _ _
-    c.first_end-a.ensures c.second_end-b.ensures in
-    both_rooted _ _ _ kept_at
+apart-requires c = both_rooted _ _ _ (next_kept c.args.self _ _ _ _ _ _ _ _ c.requires _ c.raise-count.new.ring c.raise-count.new.support c.raise-count.new.filled c.raise-count.ensures
+    c.shut_listed.new.exposure c.shut_listed.new.figure c.shut_listed.ensures _ _ c.loop-i.invariant.1.0 c.loop-i-test.true _ _
+    c.first_end-a.ensures c.second_end-b.ensures)
 
 pub join_rings-requires : goal.join_rings-requires
-join_rings-requires c =
-    let kept_at : BothKept (bookAt c) c.first_end-a.result.0 c.second_end-b.result.0 =
-    let ringLeft : List ℕ =
-    c.raise-count.new.ring in
-    let supportLeft : List ℕ =
-    c.raise-count.new.support in
-    let filledLeft : List ℕ =
-    c.raise-count.new.filled.0 in
-    let exposureLeft : List ℕ =
-    c.shut_listed.new.exposure in
-    let figureLeft : List ℕ =
-    c.shut_listed.new.figure.0 in
-    next_kept c.args.self _ _ _ _ _ _ _ _ c.requires _ ringLeft supportLeft filledLeft
-    exposureLeft figureLeft _ _ c.loop-i.inv.1.0 c.loop-i-test.taken _ _
-    c.first_end-a.ensures c.second_end-b.ensures in
-    both_named _ _ _ kept_at
+join_rings-requires c = both_named _ _ _ (next_kept c.args.self _ _ _ _ _ _ _ _ c.requires _ c.raise-count.new.ring c.raise-count.new.support c.raise-count.new.filled c.raise-count.ensures
+    c.shut_listed.new.exposure c.shut_listed.new.figure c.shut_listed.ensures _ _ c.loop-i.invariant.1.0 c.loop-i-test.true _ _
+    c.first_end-a.ensures c.second_end-b.ensures)
 
 pub fuse-requires : goal.fuse-requires
-fuse-requires c =
-    let kept_at : BothKept (bookAt c) c.first_end-a.result.0 c.second_end-b.result.0 =
-    let ringLeft : List ℕ =
-    c.raise-count.new.ring in
-    let supportLeft : List ℕ =
-    c.raise-count.new.support in
-    let filledLeft : List ℕ =
-    c.raise-count.new.filled.0 in
-    let exposureLeft : List ℕ =
-    c.shut_listed.new.exposure in
-    let figureLeft : List ℕ =
-    c.shut_listed.new.figure.0 in
-    next_kept c.args.self _ _ _ _ _ _ _ _ c.requires _ ringLeft supportLeft filledLeft
-    exposureLeft figureLeft _ _ c.loop-i.inv.1.0 c.loop-i-test.taken _ _
-    c.first_end-a.ensures c.second_end-b.ensures in
-    kept_at
+fuse-requires c = (next_kept c.args.self _ _ _ _ _ _ _ _ c.requires _ c.raise-count.new.ring c.raise-count.new.support c.raise-count.new.filled c.raise-count.ensures
+    c.shut_listed.new.exposure c.shut_listed.new.figure c.shut_listed.ensures _ _ c.loop-i.invariant.1.0 c.loop-i-test.true _ _
+    c.first_end-a.ensures c.second_end-b.ensures)
 
 pub loop-i-preserved : goal.loop-i-preserved
 loop-i-preserved c =
-    let bookAt : Book =
-    let loop = c.loop-i in
-    made c.args.self.vertices loop.tree loop.figure in
-    let kept_at : BothKept (bookAt c) c.first_end-a.result.0 c.second_end-b.result.0 =
-    let ringLeft : List ℕ =
-    c.raise-count.new.ring in
-    let supportLeft : List ℕ =
-    c.raise-count.new.support in
-    let filledLeft : List ℕ =
-    c.raise-count.new.filled.0 in
-    let exposureLeft : List ℕ =
-    c.shut_listed.new.exposure in
-    let figureLeft : List ℕ =
-    c.shut_listed.new.figure.0 in
-    next_kept c.args.self _ _ _ _ _ _ _ _ c.requires _ ringLeft supportLeft filledLeft
-    exposureLeft figureLeft _ _ c.loop-i.inv.1.0 c.loop-i-test.taken _ _
-    c.first_end-a.ensures c.second_end-b.ensures in
-    let now = c.loop-i.inv.1.0 in (
+    let now = c.loop-i.invariant.1.0 in (
       search rules,
       rw add-one
           (elim c.if-apart.branch [
@@ -188,29 +87,22 @@ loop-i-preserved c =
                 let same = with-count w.fuse.result.book _ unites.vertices in
                 rw (w.ring-is, w.tree-is, w.figure-is) (
                   rw same (fuse_next _ _ _ _ _ now _ _ _ c.first_end-a.ensures c.second_end-b.ensures unites),
-                  rw (sym unites.vertices) (joined_rings _ _ _ kept_at _ c.apart.ensures w.if-apart.true _ _ _ w.join_rings.ensures _ unites c.loop-i.inv.1.1),
+                  rw (sym unites.vertices) (joined_rings _ _ _ (next_kept c.args.self _ _ _ _ _ _ _ _ c.requires _ c.raise-count.new.ring c.raise-count.new.support c.raise-count.new.filled c.raise-count.ensures
+                      c.shut_listed.new.exposure c.shut_listed.new.figure c.shut_listed.ensures _ _ c.loop-i.invariant.1.0 c.loop-i-test.true _ _
+                      c.first_end-a.ensures c.second_end-b.ensures) _ c.apart.ensures w.if-apart.true _ _ _ w.join_rings.ensures _ unites c.loop-i.invariant.1.1),
                 )
             | else-apart w ↦ rw (w.ring-is, w.tree-is, w.figure-is) (
               fuse_next _ _ _ _ _ now _ _ _ c.first_end-a.ensures c.second_end-b.ensures
-                  (united_together bookAt _ _ _ now.good c.apart.ensures w.if-apart.false),
-              c.loop-i.inv.1.1,
+                  (united_together (let loop = c.loop-i in
+                  made c.args.self.vertices loop.tree loop.figure) _ _ _ now.good c.apart.ensures w.if-apart.false),
+              c.loop-i.invariant.1.1,
             )
           ]),
     )
 
 pub returns : goal.returns
 returns c =
-    let ringLeft : List ℕ =
-    c.raise-count.new.ring in
-    let supportLeft : List ℕ =
-    c.raise-count.new.support in
-    let filledLeft : List ℕ =
-    c.raise-count.new.filled.0 in
-    let exposureLeft : List ℕ =
-    c.shut_listed.new.exposure in
-    let figureLeft : List ℕ =
-    c.shut_listed.new.figure.0 in
     let loop = c.loop-i in
     let p : loop.i ≡ c.raise-count.result = omega arith in
-    grows c.args.self _ _ _ _ _ _ _ _ c.requires _ ringLeft supportLeft filledLeft
-    exposureLeft figureLeft _ _ (rw p at loop.invariant.1.0) loop.invariant.1.1
+    grows c.args.self _ _ _ _ _ _ _ _ c.requires _ c.raise-count.new.ring c.raise-count.new.support c.raise-count.new.filled c.raise-count.ensures
+    c.shut_listed.new.exposure c.shut_listed.new.figure c.shut_listed.ensures _ _ (rw p at loop.invariant.1.0) loop.invariant.1.1

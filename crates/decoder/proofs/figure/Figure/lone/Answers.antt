@@ -13,4 +13,4 @@ overflow_add-result c = omega (arith, c.amount-size.ensures.1, c.amount-even.ens
 pub returns : goal.returns
 returns c =
     let args = c.args in
-    rw (c.amount-size.ensures.0, c.amount-even.ensures.0, c.amount-open.ensures.0) (lone_figure args.exposed args.lit args.holds-open)
+    rw (c.amount-size.ensures.0, c.amount-even.ensures.0, c.amount-open.ensures.0) (lone_figure args.exposed args.lit args.holds_open)
