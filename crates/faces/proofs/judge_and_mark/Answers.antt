@@ -19,4 +19,4 @@ pub returns-in_default : goal.returns-in_default
 returns-in_default c =
     let a = c.args in
     unmarked a.side a.syndrome.now a.loss.now a.handed.now a.faces.now c.requires.0 _ _ _
-    c.judge-verdict.ensures c.in_default.in_default-own.keys2
+    c.judge-verdict.ensures c.in_default.not-Same
