@@ -1,5 +1,4 @@
 -- `text::field::digit_of` meets its contract: its tests are the definition's own. Assumes nothing.
-use borrow.Author.Rules.{rules}
 use borrow.Author.Tests.{le-leb, lt-leb, lt-ltb, le-ltb}
 use native.Mathlib.Omega.{arith}
 use Rattle.model.specs.Text.{digit_zero}

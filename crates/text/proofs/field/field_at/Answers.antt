@@ -1,14 +1,9 @@
-use Prim.Native.Nat.{ℕ, ◌≤◌, ◌-◌}
-use mathlib.Core.Path.{◌≡◌, sym, ◌∙◌}
+use Prim.Native.Nat.{ℕ}
+use mathlib.Core.Path.{sym, ◌∙◌}
 use mathlib.Core.List.{List}
 use native.Mathlib.Omega.{arith}
-use borrow.Author.Rules.{rules}
-use lib.ListN.{length, get_or, drop}
-use Rattle.model.specs.Board.{edge_limit}
-use Rattle.model.specs.Text.{tab}
-use Rattle.text.specs.Pieces.{up_to}
-use Rattle.text.specs.FieldReadings.{field_read}
-use Rattle.text.proofs.FieldReadingLaws.{resumed, a_digit, too_large, begins, begins_not, goes_on, goes_on_not, after_zero, ends_at_tab, ends_at_end, nothing_at_end}
+use lib.ListN.{get_or}
+use Rattle.text.proofs.FieldReadingLaws.{a_digit, too_large, begins, begins_not, goes_on, goes_on_not, after_zero, ends_at_tab, ends_at_end, nothing_at_end}
 use Rattle.text.proofs.field.field_at.Goals as goal
 
 pub returns-then-line-at : goal.returns-then-line-at

@@ -1,16 +1,13 @@
 -- `text::field::field_at` meets its contract. The loop's invariant: the field reads as what is left of it does after the number so far.
 -- The measure is what is left of the line. Assumes nothing.
-use Prim.Native.Nat.{ℕ, ◌≤◌, ◌-◌}
-use mathlib.Core.Path.{◌≡◌, sym, ◌∙◌}
-use mathlib.Core.List.{List}
-use native.Mathlib.Omega.{arith}
-use borrow.Author.Rules.{rules}
-use lib.ListN.{length, get_or, drop}
+use Prim.Native.Nat.{◌≤◌, ◌-◌}
+use mathlib.Core.Path.{◌≡◌}
+use lib.ListN.{length, drop}
 use Rattle.model.specs.Board.{edge_limit}
 use Rattle.model.specs.Text.{tab}
 use Rattle.text.specs.Pieces.{up_to}
 use Rattle.text.specs.FieldReadings.{field_read}
-use Rattle.text.proofs.FieldReadingLaws.{resumed, a_digit, too_large, begins, begins_not, goes_on, goes_on_not, after_zero, ends_at_tab, ends_at_end, nothing_at_end}
+use Rattle.text.proofs.FieldReadingLaws.{resumed}
 use Rattle.text.proofs.field.field_at.Given as goal
 
 abbrev pub invariant-loop-end : goal.invariant-loop-end

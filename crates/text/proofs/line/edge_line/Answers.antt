@@ -1,6 +1,5 @@
 -- `text::line::edge_line` meets its contract: the three fields are read one after the other, and a fourth is refused. Assumes nothing.
 use mathlib.Core.Path.{sym, ap, ◌∙◌}
-use borrow.Author.Rules.{rules}
 use Rattle.text.specs.LineReadings.{as_parsed, fields_parsed}
 use Rattle.text.proofs.LineReadingLaws.{bad_field, last_field, field_before, four_fields}
 use Rattle.text.proofs.line.edge_line.Goals as goal

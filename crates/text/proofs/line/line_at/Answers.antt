@@ -3,7 +3,6 @@
 use Prim.Native.Nat.{◌+◌}
 use mathlib.Core.Path.{sym, ap, ◌∙◌}
 use native.Mathlib.Omega.{arith}
-use borrow.Author.Rules.{rules}
 use Rattle.text.specs.LineReadings.{as_read}
 use Rattle.text.proofs.LineReadingLaws.{no_newline, newline_at}
 use Rattle.text.proofs.NumberLaws.{newlines_bound, next_number}

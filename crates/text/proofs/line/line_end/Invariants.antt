@@ -1,14 +1,10 @@
 -- `text::line::line_end` meets its contract. The loop's invariant: what stands before the newline ends where it ends from here on.
 -- The measure is what is left of the text. Assumes nothing.
-use Prim.Native.Nat.{suc, ◌+◌, ◌-◌}
-use mathlib.Core.Path.{◌≡◌, refl}
-use native.Mathlib.Omega.{arith}
-use borrow.Author.Rules.{rules}
-use borrow.Author.Tests.{eq-eqb, ne_eqb}
-use lib.ListN.{length, get_or, drop}
+use Prim.Native.Nat.{◌+◌, ◌-◌}
+use mathlib.Core.Path.{◌≡◌}
+use lib.ListN.{length, drop}
 use Rattle.model.specs.Text.{newline}
 use Rattle.text.specs.Pieces.{up_to}
-use Rattle.text.proofs.PieceLaws.{up_to_at, up_to_end}
 use Rattle.text.proofs.line.line_end.Given as goal
 
 abbrev pub invariant-loop-end : goal.invariant-loop-end

@@ -1,6 +1,5 @@
 -- `text::line::line_of` meets its contract: a letter, a tab and the fields that the letter asks for. Assumes nothing.
 use mathlib.Core.Path.{sym, ◌∙◌}
-use borrow.Author.Rules.{rules}
 use Rattle.text.proofs.LineReadingLaws.{too_short, no_tab, tabbed, edge_letter, first_bad, second_field, only_field}
 use Rattle.text.proofs.line.line_of.Goals as goal
 

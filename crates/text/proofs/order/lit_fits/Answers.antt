@@ -1,5 +1,4 @@
 -- `text::order::lit_fits` meets its contract: its tests are the definition's own. Assumes nothing.
-use borrow.Author.Rules.{rules}
 use borrow.Author.Tests.{le-ltb, lt-ltb}
 use Rattle.text.proofs.order.lit_fits.Goals as goal
 

@@ -1,6 +1,5 @@
 -- `text::order::loss_may_follow` meets its contract, case by case. Assumes nothing.
 use mathlib.Core.Path.{sym, ap}
-use borrow.Author.Rules.{rules}
 use Rattle.model.specs.Text.{loss_may_follow}
 use Rattle.text.specs.Order.{meant}
 use Rattle.text.proofs.order.loss_may_follow.Goals as goal

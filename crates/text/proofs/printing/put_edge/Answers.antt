@@ -1,6 +1,5 @@
 -- `text::printing::put_edge` meets its contract: letter, three fields and newline, one after the other. Assumes nothing.
 use native.Mathlib.Omega.{arith}
-use borrow.Author.Rules.{rules}
 use Rattle.text.proofs.PutLaws.{then, long, length_edge}
 use Rattle.text.proofs.printing.put_edge.Goals as goal
 

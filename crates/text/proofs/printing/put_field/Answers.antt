@@ -1,5 +1,4 @@
 -- `text::printing::put_field` meets its contract: a tab and a number, one after the other. Assumes nothing.
-use borrow.Author.Rules.{rules}
 use Rattle.text.proofs.PutLaws.{then}
 use Rattle.text.proofs.printing.put_field.Goals as goal
 

@@ -1,6 +1,5 @@
 -- `text::printing::put_line` meets its contract: letter, field and newline, one after the other. Assumes nothing.
 use native.Mathlib.Omega.{arith}
-use borrow.Author.Rules.{rules}
 use Rattle.text.proofs.PutLaws.{then, long, length_number}
 use Rattle.text.proofs.printing.put_line.Goals as goal
 

@@ -1,13 +1,8 @@
 -- `text::printing::put_listed` meets its contract. The loop's invariant: so many places are gone through. Assumes nothing.
 use Prim.Native.Nat.{◌-◌, ◌≤◌}
-use mathlib.Core.Path.{subst}
-use native.Mathlib.Nat.{le_antisymm}
-use native.Mathlib.Omega.{arith}
-use borrow.Author.Rules.{rules}
 use lib.ListN.{length}
 use Rattle.model.specs.Sums.{ones}
 use Rattle.text.specs.Printing.{Puts, listed_bytes}
-use Rattle.text.proofs.PutLaws.{then, long, put_none, listed_more, listed_fit}
 use Rattle.text.proofs.printing.put_listed.Given as goal
 
 abbrev pub invariant-loop-i : goal.invariant-loop-i

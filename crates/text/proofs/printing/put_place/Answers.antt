@@ -1,5 +1,4 @@
 -- `text::printing::put_place` meets its contract: its test is the definition's own. Assumes nothing.
-use borrow.Author.Rules.{rules}
 use borrow.Author.Tests.{eq-eqb, ne_eqb}
 use Rattle.text.proofs.PutLaws.{put_none}
 use Rattle.text.proofs.printing.put_place.Goals as goal

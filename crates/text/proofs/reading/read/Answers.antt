@@ -1,11 +1,9 @@
 -- `text::reading::read` meets its contract: the tests in their order, then the lines, then the entries copied, none where the lines are
 -- refused. Assumes nothing.
-use Prim.Native.Nat.{ℕ, ◌*◌, ◌≤◌}
-use mathlib.Core.Path.{◌≡◌, refl, sym, ap, ◌∙◌}
+use Prim.Native.Nat.{ℕ, ◌≤◌}
+use mathlib.Core.Path.{◌≡◌, refl, sym}
 use mathlib.Core.List.{List}
 use native.Mathlib.Omega.{arith}
-use borrow.Author.Rules.{rules}
-use borrow.Author.Tests.{not-true, not-false}
 use Rattle.model.specs.Board.{vertex_limit, edge_limit}
 use Rattle.model.specs.TextOutcomes.{Buffers, buffers_of}
 use Rattle.model.specs.declared.refusal.Refusal.{Refusal}
@@ -39,12 +37,12 @@ few k w = let h = few_filled _ _ _ w in (rw k.vertices h.0, rw k.edges h.1)
 pub returns-then-not-fit : goal.returns-then-not-fit
 returns-then-not-fit c =
     let lent : Buffers = buffers_of c.args.ends.now c.args.marks.now c.args.opened.now c.args.syndrome.now c.args.loss.now in
-    wrong_length c.args.text.now lent (not-true _ c.if-not-fit.true-raw)
+    wrong_length c.args.text.now lent c.if-not-fit.true
 
 pub returns-then-text-gt-TEXT : goal.returns-then-text-gt-TEXT
 returns-then-text-gt-TEXT c =
     let lent : Buffers = buffers_of c.args.ends.now c.args.marks.now c.args.opened.now c.args.syndrome.now c.args.loss.now in
-    too_long c.args.text.now lent (not-false _ c.if-not-fit.false-raw) c.if-text-gt-TEXT.true
+    too_long c.args.text.now lent c.if-not-fit.false c.if-text-gt-TEXT.true
 
 pub read_lines-reading-requires : goal.read_lines-reading-requires
 read_lines-reading-requires c = record { sized = zeros_sized; clear = zeros_clear }
@@ -52,22 +50,22 @@ read_lines-reading-requires c = record { sized = zeros_sized; clear = zeros_clea
 pub overflow_mul-filled : goal.overflow_mul-filled
 overflow_mul-filled c =
     let k : FilledBy c.read_lines-reading.result c.match-reading.reading c.match-reading.filled =
-        elim c.match-reading.branch [
-          | in-Counts w ↦ by_counts w.in-Counts.is w.reading-is w.filled-is
-          | in-Refused w ↦ by_refusal w.in-Refused.is w.reading-is w.filled-is
-        ] in
+    elim c.match-reading.branch [
+      | in-Counts w ↦ by_counts w.in-Counts.is w.reading-is w.filled-is
+      | in-Refused w ↦ by_refusal w.in-Refused.is w.reading-is w.filled-is
+    ] in
     let few = few k c.read_lines-reading.ensures in
     omega (arith, few.1)
 
 pub copy_numbers-requires : goal.copy_numbers-requires
 copy_numbers-requires c =
     let lent : Buffers = buffers_of c.args.ends.now c.args.marks.now c.args.opened.now c.args.syndrome.now c.args.loss.now in
-    let sized : Sized lent = fits_sized lent (not-false _ c.if-not-fit.false-raw) in
+    let sized : Sized lent = fits_sized lent c.if-not-fit.false in
     let k : FilledBy c.read_lines-reading.result c.match-reading.reading c.match-reading.filled =
-        elim c.match-reading.branch [
-          | in-Counts w ↦ by_counts w.in-Counts.is w.reading-is w.filled-is
-          | in-Refused w ↦ by_refusal w.in-Refused.is w.reading-is w.filled-is
-        ] in
+    elim c.match-reading.branch [
+      | in-Counts w ↦ by_counts w.in-Counts.is w.reading-is w.filled-is
+      | in-Refused w ↦ by_refusal w.in-Refused.is w.reading-is w.filled-is
+    ] in
     let few = few k c.read_lines-reading.ensures in
     let read = c.read_lines-reading.ensures.sized.ends_long in
     let room = sized.ends_long in
@@ -76,12 +74,12 @@ copy_numbers-requires c =
 pub copy_bytes-requires : goal.copy_bytes-requires
 copy_bytes-requires c =
     let lent : Buffers = buffers_of c.args.ends.now c.args.marks.now c.args.opened.now c.args.syndrome.now c.args.loss.now in
-    let sized : Sized lent = fits_sized lent (not-false _ c.if-not-fit.false-raw) in
+    let sized : Sized lent = fits_sized lent c.if-not-fit.false in
     let k : FilledBy c.read_lines-reading.result c.match-reading.reading c.match-reading.filled =
-        elim c.match-reading.branch [
-          | in-Counts w ↦ by_counts w.in-Counts.is w.reading-is w.filled-is
-          | in-Refused w ↦ by_refusal w.in-Refused.is w.reading-is w.filled-is
-        ] in
+    elim c.match-reading.branch [
+      | in-Counts w ↦ by_counts w.in-Counts.is w.reading-is w.filled-is
+      | in-Refused w ↦ by_refusal w.in-Refused.is w.reading-is w.filled-is
+    ] in
     let few = few k c.read_lines-reading.ensures in
     let read = c.read_lines-reading.ensures.sized.marks_long in
     let room = sized.marks_long in
@@ -90,12 +88,12 @@ copy_bytes-requires c =
 pub copy_bytes-requires-2 : goal.copy_bytes-requires-2
 copy_bytes-requires-2 c =
     let lent : Buffers = buffers_of c.args.ends.now c.args.marks.now c.args.opened.now c.args.syndrome.now c.args.loss.now in
-    let sized : Sized lent = fits_sized lent (not-false _ c.if-not-fit.false-raw) in
+    let sized : Sized lent = fits_sized lent c.if-not-fit.false in
     let k : FilledBy c.read_lines-reading.result c.match-reading.reading c.match-reading.filled =
-        elim c.match-reading.branch [
-          | in-Counts w ↦ by_counts w.in-Counts.is w.reading-is w.filled-is
-          | in-Refused w ↦ by_refusal w.in-Refused.is w.reading-is w.filled-is
-        ] in
+    elim c.match-reading.branch [
+      | in-Counts w ↦ by_counts w.in-Counts.is w.reading-is w.filled-is
+      | in-Refused w ↦ by_refusal w.in-Refused.is w.reading-is w.filled-is
+    ] in
     let few = few k c.read_lines-reading.ensures in
     let read = c.read_lines-reading.ensures.sized.open_long in
     let room = sized.open_long in
@@ -104,12 +102,12 @@ copy_bytes-requires-2 c =
 pub copy_bytes-requires-3 : goal.copy_bytes-requires-3
 copy_bytes-requires-3 c =
     let lent : Buffers = buffers_of c.args.ends.now c.args.marks.now c.args.opened.now c.args.syndrome.now c.args.loss.now in
-    let sized : Sized lent = fits_sized lent (not-false _ c.if-not-fit.false-raw) in
+    let sized : Sized lent = fits_sized lent c.if-not-fit.false in
     let k : FilledBy c.read_lines-reading.result c.match-reading.reading c.match-reading.filled =
-        elim c.match-reading.branch [
-          | in-Counts w ↦ by_counts w.in-Counts.is w.reading-is w.filled-is
-          | in-Refused w ↦ by_refusal w.in-Refused.is w.reading-is w.filled-is
-        ] in
+    elim c.match-reading.branch [
+      | in-Counts w ↦ by_counts w.in-Counts.is w.reading-is w.filled-is
+      | in-Refused w ↦ by_refusal w.in-Refused.is w.reading-is w.filled-is
+    ] in
     let few = few k c.read_lines-reading.ensures in
     let read = c.read_lines-reading.ensures.sized.syndrome_long in
     let room = sized.syndrome_long in
@@ -118,12 +116,12 @@ copy_bytes-requires-3 c =
 pub copy_bytes-requires-4 : goal.copy_bytes-requires-4
 copy_bytes-requires-4 c =
     let lent : Buffers = buffers_of c.args.ends.now c.args.marks.now c.args.opened.now c.args.syndrome.now c.args.loss.now in
-    let sized : Sized lent = fits_sized lent (not-false _ c.if-not-fit.false-raw) in
+    let sized : Sized lent = fits_sized lent c.if-not-fit.false in
     let k : FilledBy c.read_lines-reading.result c.match-reading.reading c.match-reading.filled =
-        elim c.match-reading.branch [
-          | in-Counts w ↦ by_counts w.in-Counts.is w.reading-is w.filled-is
-          | in-Refused w ↦ by_refusal w.in-Refused.is w.reading-is w.filled-is
-        ] in
+    elim c.match-reading.branch [
+      | in-Counts w ↦ by_counts w.in-Counts.is w.reading-is w.filled-is
+      | in-Refused w ↦ by_refusal w.in-Refused.is w.reading-is w.filled-is
+    ] in
     let few = few k c.read_lines-reading.ensures in
     let read = c.read_lines-reading.ensures.sized.loss_long in
     let room = sized.loss_long in
@@ -148,12 +146,12 @@ pub returns : goal.returns
 returns c =
     let lent : Buffers = buffers_of c.args.ends.now c.args.marks.now c.args.opened.now c.args.syndrome.now c.args.loss.now in
     let k : FilledBy c.read_lines-reading.result c.match-reading.reading c.match-reading.filled =
-        elim c.match-reading.branch [
-          | in-Counts w ↦ by_counts w.in-Counts.is w.reading-is w.filled-is
-          | in-Refused w ↦ by_refusal w.in-Refused.is w.reading-is w.filled-is
-        ] in
+    elim c.match-reading.branch [
+      | in-Counts w ↦ by_counts w.in-Counts.is w.reading-is w.filled-is
+      | in-Refused w ↦ by_refusal w.in-Refused.is w.reading-is w.filled-is
+    ] in
     rw k.same
-    (reads c.args.text.now lent (not-false _ c.if-not-fit.false-raw) c.if-text-gt-TEXT.false _ _ _ _ _ _ _ _ _
+    (reads c.args.text.now lent c.if-not-fit.false c.if-text-gt-TEXT.false _ _ _ _ _ _ _ _ _
     c.read_lines-reading.ensures
     k.vertices
     k.edges
@@ -162,4 +160,3 @@ returns c =
     c.copy_bytes-2.ensures
     c.copy_bytes-3.ensures
     c.copy_bytes-4.ensures)
-

@@ -1,13 +1,12 @@
 -- `text::reading::read_lines` meets its contract. One reader lives through the reading: each turn reads the line at its position, and it
 -- moves on to the next; a turn ends the reading or leads to a stage with less of the text left. Assumes nothing.
-use Prim.Native.Nat.{ℕ, ◌≤◌, ◌<◌, ◌-◌}
+use Prim.Native.Nat.{ℕ}
 use mathlib.Core.Path.{◌≡◌, refl, ap, subst, ◌∙◌}
 use mathlib.Core.List.{List}
 use native.Mathlib.Omega.{arith}
-use lib.ListN.{length}
 use Rattle.model.specs.declared.refusal.Refusal.TheVariants.{MalformedLine}
 use Rattle.model.specs.declared.answers.Reading.TheVariants as reading
-use Rattle.model.specs.TextOutcomes.{Buffers, buffers_of}
+use Rattle.model.specs.TextOutcomes.{Buffers}
 use Rattle.text.specs.declared.line.Line.{Line}
 use Rattle.text.specs.declared.line.LineRead.{LineRead}
 use Rattle.text.specs.declared.line.LineRead.TheVariants as lineread
@@ -15,10 +14,9 @@ use Rattle.text.specs.declared.reader.Lines.{Lines}
 use Rattle.text.specs.declared.stage.Stage.{Stage}
 use Rattle.text.specs.declared.stage.Stage.TheVariants as stage
 use Rattle.text.specs.LineReadings.{ReadsLine}
-use Rattle.text.specs.LineReader.{AtStart, MovedOn}
-use Rattle.text.specs.Scratch.{Sized, Clear, ReadsInto}
+use Rattle.text.specs.Scratch.{ReadsInto}
 use Rattle.text.specs.Stages.{Takes}
-use Rattle.text.proofs.StageLaws.{Reached, After, starts, within, unread, never_start, untaken, onward, finished, goes_on}
+use Rattle.text.proofs.StageLaws.{Reached, After, unread, never_start, untaken, onward, finished, goes_on}
 use Rattle.text.proofs.reading.read_lines.Goals as goal
 
 -- the line that was read, said of the text

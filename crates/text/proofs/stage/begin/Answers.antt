@@ -1,6 +1,5 @@
 -- `text::stage::begin` meets its contract: only a `V` line in range is taken. Assumes nothing.
 use mathlib.Core.Path.{sym}
-use borrow.Author.Rules.{rules}
 use Rattle.text.proofs.BeginLaws.{too_few, too_many, in_range}
 use Rattle.text.proofs.stage.begin.Goals as goal
 

@@ -1,9 +1,8 @@
 -- `text::store::store` meets its contract: each line's stores are the definition's own. Assumes nothing.
 use mathlib.Core.Path.{◌≡◌, refl, sym, subst}
 use native.Mathlib.Omega.{arith}
-use borrow.Author.Rules.{rules}
 use Prim.Native.Nat.{ℕ}
-use Rattle.model.specs.TextOutcomes.{Buffers, buffers_of}
+use Rattle.model.specs.TextOutcomes.{Buffers}
 use Rattle.text.specs.declared.line.Line.{Line}
 use Rattle.text.specs.Order.{meant}
 use Rattle.text.specs.Scratch.{Storable, Stores}
@@ -59,4 +58,3 @@ returns-in-Syndrome c = told_stores c.args.edges _ c.in-Syndrome.is _ _ (record 
 
 pub returns-in-Lost : goal.returns-in-Lost
 returns-in-Lost c = told_stores c.args.edges _ c.in-Lost.is _ _ (record { count = refl; arrays = refl })
-

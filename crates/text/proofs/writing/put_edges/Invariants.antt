@@ -1,12 +1,7 @@
 -- `text::writing::put_edges` meets its contract. The loop's invariant: so many edges' lines are put. Assumes nothing.
 use Prim.Native.Nat.{◌-◌, ◌≤◌}
-use mathlib.Core.Path.{subst}
-use native.Mathlib.Nat.{le_antisymm}
-use native.Mathlib.Omega.{arith}
-use borrow.Author.Rules.{rules}
 use lib.ListN.{length}
 use Rattle.text.specs.Printing.{Puts, edges_bytes}
-use Rattle.text.proofs.PutLaws.{then, long, put_none, edges_more, edges_fit}
 use Rattle.text.proofs.writing.put_edges.Given as goal
 
 abbrev pub invariant-loop-e : goal.invariant-loop-e

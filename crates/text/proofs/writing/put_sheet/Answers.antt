@@ -1,6 +1,5 @@
 -- `text::writing::put_sheet` meets its contract: the five kinds of line, one after the other. Assumes nothing.
 use native.Mathlib.Omega.{arith}
-use borrow.Author.Rules.{rules}
 use Rattle.model.specs.Board.{board_of, Sheet, sheet_of}
 use Rattle.text.proofs.PutLaws.{then, long, length_sheet}
 use Rattle.text.proofs.writing.put_sheet.Goals as goal

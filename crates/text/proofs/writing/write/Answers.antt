@@ -3,7 +3,6 @@ use mathlib.Core.Path.{◌≡◌, sym, ap, ◌∙◌}
 use mathlib.Core.Bool.{true}
 use mathlib.Core.Option.{none}
 use native.Mathlib.Nat.{zero-add}
-use borrow.Author.Rules.{rules}
 use Rattle.model.specs.Board.{board_of, Sheet, sheet_of, ValidSheet}
 use Rattle.model.specs.Refusals.{refusal_of, sheet_rules}
 use Rattle.board.specs.Checks.{test_of}
