@@ -1,12 +1,13 @@
 -- `text::reading::read_lines` meets its contract. One reader lives through the reading: each turn reads the line at its position, and it
 -- moves on to the next; a turn ends the reading or leads to a stage with less of the text left. Assumes nothing.
 use Prim.Native.Nat.{ℕ}
-use mathlib.Core.Path.{◌≡◌, refl, ap, subst, ◌∙◌}
+use mathlib.Core.Path.{◌≡◌, refl, ap, ap₂, subst, ◌∙◌}
 use mathlib.Core.List.{List}
 use native.Mathlib.Omega.{arith}
 use Rattle.model.specs.declared.refusal.Refusal.TheVariants.{MalformedLine}
 use Rattle.model.specs.declared.answers.Reading.TheVariants as reading
 use Rattle.model.specs.TextOutcomes.{Buffers}
+use Rattle.model.specs.LineNumbers.{line_number}
 use Rattle.text.specs.declared.line.Line.{Line}
 use Rattle.text.specs.declared.line.LineRead.{LineRead}
 use Rattle.text.specs.declared.line.LineRead.TheVariants as lineread
@@ -16,7 +17,7 @@ use Rattle.text.specs.declared.stage.Stage.TheVariants as stage
 use Rattle.text.specs.LineReadings.{ReadsLine}
 use Rattle.text.specs.Scratch.{ReadsInto}
 use Rattle.text.specs.Stages.{Takes}
-use Rattle.text.proofs.StageLaws.{Reached, After, unread, never_start, untaken, onward, finished, goes_on}
+use Rattle.text.proofs.StageLaws.{Reached, After, starts, within, unread, never_start, untaken, onward, finished, goes_on}
 use Rattle.text.proofs.reading.read_lines.Goals as goal
 
 -- the line that was read, said of the text
@@ -35,6 +36,16 @@ not_a_sheet : (t : List ℕ) (b : Buffers) (at k : ℕ) (s : Stage) (w : Reached
 not_a_sheet t b at k s w l next k' reads b' stage.Start none takes = absurd (never_start t b at k s w l next k' reads b' takes)
 not_a_sheet t b at k s w l next k' reads b' (stage.Sheet n m last) none takes = absurd (none n m last refl)
 not_a_sheet t b at k s w l next k' reads b' stage.Malformed none takes = untaken t b at k s w l next k' reads b' takes
+
+pub loop-line-init : goal.loop-line-init
+loop-line-init c =
+    let made = c.lines_of-lines.ensures in
+    let text_is = ap (λ x. x.now) made.text_is in
+    let number_is : c.lines_of-lines.result.number ≡ line_number c.args.text.now 0 = made.numbered ∙ ap₂ line_number text_is made.at_is in
+    record { text_is = text_is; reached = rw (made.at_is, number_is) (starts _ _ c.requires.sized c.requires.clear) }
+
+pub take_line-stage-requires : goal.take_line-stage-requires
+take_line-stage-requires c = within _ _ _ _ _ c.loop-line.invariant.reached
 
 pub returns-in_default : goal.returns-in_default
 returns-in_default c =
