@@ -219,6 +219,7 @@ class Turn:
         self.f, self.place = f, place
         self.alias = {var: []}
         self.used = []
+        self.last = {}
 
     def path(self, word):
         parts = word.split(".")
@@ -239,11 +240,44 @@ class Turn:
         old = None
         while old != body:
             old = body
-            body = re.sub(r"(^|[\s(])let ([^\s:=()]+) = (" + WORD + r") in(?:\n[ ]*| |$)", alias, body, count=0)
+            body = re.sub(r"(?:^|(?<=[\s(]))()let ([^\s:=()]+) = (" + WORD + r") in(?:\n[ ]*| |$)", alias, body, count=0)
         for h in helpers:
             body = re.sub(r"\(" + re.escape(h) + r" (" + WORD + r")\)", lambda m: self.helper(h, m), body)
             body = re.sub(r"(?<![^\s(){};,])" + re.escape(h) + r" (" + WORD + r")", lambda m: self.helper(h, m), body)
-        return re.sub(WORD, lambda m: self.path(m[0]), self.ways(body))
+        body = self.ways(self.elims(body))
+        return re.sub(WORD + r"(?= =\s)?", lambda m: m[0] if "." not in m[0] and re.match(r" =\s", body[m.end():]) else self.path(m[0]), body)
+
+    def elims(self, body):
+        """The same of an `elim` by inl and inr."""
+        m = re.search(r"elim (" + WORD + r")\.branch \[", body)
+        if not m:
+            return body
+        depth, at = 0, m.end() - 1
+        for k in range(at, len(body)):
+            depth += (body[k] in "({[") - (body[k] in ")}]")
+            if depth == 0:
+                break
+        flat = self.f.flat(self.place, self.alias[m[1].split(".")[0]] + m[1].split(".")[1:]) if m[1].split(".")[0] in self.alias else None
+        kinds = self.f.ways.get(flat[-1]) if flat else None
+        arms, depth, last = [], 0, at + 1
+        for i in range(at + 1, k):
+            depth += (body[i] in "({[") - (body[i] in ")}]")
+            if body[i] == "|" and depth == 0:
+                arms.append(body[last:i])
+                last = i + 1
+        arms = [a.strip() for a in arms + [body[last:k]] if a.strip()]
+        got = [re.fullmatch(r"(inl|inr) (\S+) ↦\s(.*)", a, re.S) for a in arms]
+        if not kinds or len(kinds) != len(arms) or not all(got):
+            self.f.said.append(f"elim of {m[1]} by hand")
+            return body[:m.end()] + self.elims(body[m.end():])
+        out = []
+        for g, (ctor, fields) in zip(got, kinds):
+            inside = self.elims(g[3])
+            self.lasts(g[2], inside)
+            inside = re.sub(WORD, lambda w: self.field(w[0], g[2], fields), inside)
+            out.append(f"{ctor} {g[2]} ↦ {inside}")
+            self.f.imports.add(ctor)
+        return body[:m.start()] + "elim " + ".".join(["\x01c"] + flat + ["branch"]) + " [ " + " | ".join(out) + " ]" + self.elims(body[k + 1:])
 
     def ways(self, body):
         """An elimination of what branch was taken, by the constructors and the fields that the check makes for it."""
@@ -265,16 +299,39 @@ class Turn:
             return body[:at + 7] + self.ways(body[at + 7:])
         arms = []
         for text, (ctor, fields) in zip((one, two), kinds):
-            m = re.fullmatch(r"\(λ (\S+)\. (.*)\)", text, re.S)
+            m = re.fullmatch(r"\(λ (\S+)\.\s(.*)\)", text, re.S)
             if not m:
                 self.f.said.append(f"a way of {inner} is no λ: {text[:60]}")
                 return body[:at + 7] + self.ways(body[at + 7:])
             var, inside = m[1], self.ways(m[2])
+            self.lasts(var, inside)
             inside = re.sub(WORD, lambda w: self.field(w[0], var, fields), inside)
             arms.append(f"{ctor} {var} ↦ {inside}")
             self.f.imports.add(ctor)
         path = ".".join(["\x01c"] + flat + ["branch"])
         return body[:at] + f"elim {path} [ " + " | ".join(arms) + " ]" + self.ways(body[k:])
+
+    def lasts(self, var, text):
+        found = [int(m[1]) for m in re.finditer(r"(?<![^\s(){};,])" + re.escape(var) + r"\.(\d+)(?![^\s(){};,])", text)]
+        if found:
+            self.last[var] = max(found)
+
+    def chosen(self, parts, fields):
+        """The field at a position of a tuple that may have lacked some of today's fields."""
+        if not parts[1].isdigit():
+            return None
+        n = int(parts[1])
+        if len(parts) == 2:
+            fits = [f for f in fields if f.endswith("-is")]
+            last = self.last.get(parts[0], n)
+            k = len(fits) - 1 - (last - n)
+            return fits[k] if 0 <= k < len(fits) else (fields[n] if n < len(fields) else None)
+        kind = {"ensures": r"(?!if-|then-|else-|struct_|way_|loop-|in-|in_|t\d|\S*-is$)", "new": r"(?!if-|then-|struct_|way_)", "taken": r"if-|then-|else-", "left": r"if-|then-|else-", "true": r"if-|then-|else-", "false": r"if-|then-|else-"}.get(parts[2])
+        order = sorted(range(len(fields)), key=lambda i: (abs(i - n), i < n))
+        for i in order:
+            if kind is None or re.match(kind, fields[i]):
+                return fields[i]
+        return None
 
     def field(self, word, var, fields):
         parts = word.split(".")
@@ -283,10 +340,11 @@ class Turn:
         if len(fields) == 1 and not (len(parts) > 1 and parts[1] == "0"):
             rest = parts[1:]
         else:
-            if not parts[1].isdigit() or int(parts[1]) >= len(fields):
+            chosen = self.chosen(parts, fields)
+            if not chosen:
                 self.f.said.append(f"{word} has no field in {fields}")
                 return word
-            fields, rest = [fields[int(parts[1])]], parts[2:]
+            fields, rest = [chosen], parts[2:]
         turned = {"taken": "true", "left": "false"}
         rest = [turned.get(rest[0], rest[0])] + rest[1:] if rest else rest
         for p, (old, new) in self.f.places.own.items():

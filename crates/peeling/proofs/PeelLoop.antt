@@ -5,7 +5,6 @@ use mathlib.Core.Bool.{Bool, false}
 use mathlib.Core.List.{List}
 use native.Mathlib.Decide.{dec_lt}
 use native.Mathlib.Omega.{arith}
-use borrow.Author.Rules.{zero≤}
 use lib.ListN.{length, replicate, length-replicate, get_or-replicate, get_or-eq_default}
 use Rattle.model.specs.Sums.{Set, bit, ones, count_up_to}
 use Rattle.model.specs.Board.{Board, edges, plain, vertex_limit}
@@ -168,5 +167,5 @@ module _ {vertices : ℕ} {ends support odd_ends lent p taken links : List ℕ} 
       go (done none state) =
           record {
             count = omega (arith, rw all at state.counted);
-            bytes_are = values_are (length support) (λ e. bit (D e)) written s.long (λ e h. state.bits e zero≤ (omega (arith, h, all)));
+            bytes_are = values_are (length support) (λ e. bit (D e)) written s.long (λ e h. state.bits e (omega arith) (omega (arith, h, all)));
           }

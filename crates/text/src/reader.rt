@@ -6,7 +6,7 @@ ghost use Rattle.text.specs.LineReader.{AtStart, MovedOn};
 use crate::line::{LineRead, line_at};
 
 // The line reader: the lent text itself, the position at which the next line begins, and that line's number.
-#[derive(Drop)]
+#[derive(Clone, Copy)]
 pub(crate) struct Lines<'a> {
     pub text: &'a [u8],
     pub at: usize,

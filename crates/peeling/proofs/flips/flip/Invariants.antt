@@ -1,0 +1,15 @@
+-- `peeling::flips::flip` meets its contract. The loop's invariant: what lies from the vertex reached on is still to flip. Assumes nothing.
+use mathlib.Core.Path.{ap}
+use native.Mathlib.Omega.{arith}
+use borrow.Author.Rules.{rules}
+use Rattle.union_find.specs.Packed.{parents_of}
+use Rattle.union_find.proofs.Roots.{steps, steps_parent}
+use Rattle.union_find.proofs.Packing.{root_here, parent_here, no_root_here}
+use Rattle.peeling.proofs.FlipLaws.{Flipping, flipping_start, flipping_up, flipping_done}
+use Rattle.peeling.proofs.flips.flip.Given as goal
+
+abbrev pub invariant-loop-w : goal.invariant-loop-w
+invariant-loop-w l = Flipping (parents_of l.tree) l.initial.w l.initial.odd l.w l.odd
+
+abbrev pub decreases-loop-w : goal.decreases-loop-w
+decreases-loop-w l = steps (parents_of l.tree) l.w

@@ -1,0 +1,14 @@
+-- `peeling::forest::span` meets its contract. The loop's invariant: the edges passed that are in the forest are listed. Assumes nothing.
+use Prim.Native.Nat.{◌-◌, ◌≤◌}
+use mathlib.Core.Path.{sym, ◌∙◌}
+use mathlib.Core.Logic.{inl, inr}
+use native.Mathlib.Omega.{arith}
+use borrow.Author.Rules.{rules}
+use Rattle.peeling.proofs.SpanLaws.{Spanning, tree_fits, spanning_start, take_room, spanning_passed, spanning_next, spanning_done}
+use Rattle.peeling.proofs.forest.span.Given as goal
+
+abbrev pub invariant-loop-left : goal.invariant-loop-left
+invariant-loop-left l = (l.left ≤ l.edges) × Spanning l.vertices l.ends l.support l.tree l.taken l.links (l.edges - l.left) l.count
+
+abbrev pub decreases-loop-left : goal.decreases-loop-left
+decreases-loop-left l = l.left

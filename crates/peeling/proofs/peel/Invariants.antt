@@ -1,0 +1,15 @@
+-- `peeling::peel` meets its contract. The loop's invariant: all but k edges of the forest are cut. Assumes nothing.
+use mathlib.Core.Path.{◌≡◌}
+use native.Mathlib.Omega.{arith}
+use borrow.Author.Rules.{rules}
+use Rattle.model.specs.Board.{vertex_limit}
+use Rattle.union_find.specs.Packed.{parents_of}
+use Rattle.peeling.proofs.CutLaws.{cut_bound}
+use Rattle.peeling.proofs.PeelLoop.{PeelingFrom, span_room, ends_flippable, from_start, from_cuttable, from_next, from_done}
+use Rattle.peeling.proofs.peel.Given as goal
+
+abbrev pub invariant-loop-k : goal.invariant-loop-k
+invariant-loop-k l = PeelingFrom l.vertices l.ends l.support l.lit (parents_of l.tree) l.correction l.odd l.k l.count
+
+abbrev pub decreases-loop-k : goal.decreases-loop-k
+decreases-loop-k l = l.k
