@@ -29,6 +29,7 @@ class Place:
         self.arm = {}
         self.new = {}
         self.fields = {}
+        self.callee = {}
         for row, new, arm in zip(rows, by_name, arms):
             old, parent, (a, b) = row[0], row[1], row[2]
             self.parent.setdefault(old, parent)
@@ -36,6 +37,7 @@ class Place:
             self.arm.setdefault(old, arm)
             self.new.setdefault(old, new)
             self.fields.setdefault(old, dict(row[4]))
+            self.callee.setdefault(old, row[3])
 
     def chain(self, p):
         while p:
@@ -43,8 +45,8 @@ class Place:
             p = self.parent.get(p)
 
 
-def required():
-    """The names of the clauses of each function that requires more than one."""
+def required(word):
+    """The names of the clauses of each function that requires, or ensures, more than one."""
     found = {}
     for folder, dirs, files in os.walk(os.path.join(TOP, "crates")):
         dirs[:] = [d for d in dirs if d != "out"]
@@ -52,7 +54,7 @@ def required():
             if n.endswith(".rt"):
                 text = open(os.path.join(folder, n), encoding="utf-8").read()
                 for m in re.finditer(r"\bfn (\w+)(.*?)(?=\bfn |\Z)", text, re.S):
-                    names = re.findall(r"(?m)^\s+requires (\w+) \{", m[2])
+                    names = re.findall(r"(?m)^\s+" + word + r" (\w+) \{", m[2])
                     if len(names) > 1:
                         found[m[1]] = names
                         found[os.path.relpath(folder, os.path.join(TOP, "crates")).split("/")[0], m[1]] = names
@@ -98,9 +100,13 @@ class Function:
     def __init__(self, data, said, lts):
         self.ways = ways_of(lts)
         self.imports = set()
+        self.same = set()
+        self.values = {}
         self.places = Place(data["places"], data["places_by_name"], data["arms"])
         self.needs = {plain(a): (b, at[0]) for (a, b), at in zip(data["needs"], data["asked_at"])}
         self.settled = {plain(s) for s in data["settled"]}
+        self.params = data["params"]
+        self.calls = {row[2][1] for row in data["places"] if row[3]}
         self.pre = data["pre"]
         self.loops = data["loops"]
         self.changed = data["changed"]
@@ -112,6 +118,9 @@ class Function:
         if not fields:
             return None
         head, rest = fields[0], fields[1:]
+        if head == "pre":
+            head = "requires"
+            fields = [head] + rest
         if head == "requires" and self.pre and rest and rest[0].isdigit():
             i, last = 0, len(self.pre["fields"]) - 1
             while i < last and rest and rest[0] == "1":
@@ -119,6 +128,8 @@ class Function:
             if i < last and rest and rest[0] == "0":
                 rest = rest[1:]
             return ["requires", self.pre["fields"][i]] + rest
+        if head == "args" and rest:
+            return [head] + [r.replace("-", "_") for r in rest]
         if head in ("args", "requires"):
             return fields
         for p in self.places.chain(place):
@@ -132,8 +143,22 @@ class Function:
                 if best:
                     return [arm[0], best[0]] + rest[len(best[1]):]
             if old and plain(old) == plain(re.sub(r"_lem(?=\d*$)", "", head)):
+                if rest and re.match(r"if\d|loop_?test|loop-test", old):
+                    rest = [{"taken": "true", "left": "false"}.get(rest[0], rest[0])] + rest[1:]
+                if rest and rest[0] in ("inv", "came"):
+                    rest = [{"inv": "invariant", "came": "branch"}[rest[0]]] + rest[1:]
+                if rest and rest[0] == "new" and self.params.get(self.places.callee[p]):
+                    names = self.params[self.places.callee[p]]
+                    i, tail = 0, rest[1:]
+                    while i < len(names) - 1 and tail and tail[0] == "1":
+                        i, tail = i + 1, tail[1:]
+                    if tail and tail[0] == "0":
+                        tail = tail[1:]
+                    rest = ["new", names[i]] + tail
                 if rest:
                     rest = [self.places.fields[p].get(rest[0], rest[0])] + rest[1:]
+                    if plain(old).startswith("loop") and not rest[0].endswith(("-fits", "-is", "-bits")):
+                        rest[0] = rest[0].replace("-", "_")
                 return [new] + rest
         self.said.append(f"no step {head} at {place}")
         return ["?" + head] + rest
@@ -193,7 +218,7 @@ def blocks(text):
 def clause(block):
     """Parameters and text of a block of one clause."""
     text = "\n".join(block["body"])
-    m = re.match(r"\S+((?: " + WORD + r"| \([^()]*\))*) =\s?", text)
+    m = re.match(r"\S+((?: " + WORD + r"| \([^()]*\))*?) =(?:\s|$)", text)
     if not m:
         return None
     return m[1].split(), text[m.end():]
@@ -220,10 +245,11 @@ class Turn:
         self.alias = {var: []}
         self.used = []
         self.last = {}
+        self.called = {}
 
     def path(self, word):
         parts = word.split(".")
-        if parts[0] not in self.alias or "" in parts:
+        if parts[0] not in self.alias or "" in parts or word == "at":
             return word
         flat = self.f.flat(self.place, self.alias[parts[0]] + parts[1:])
         return ".".join(["c"] + flat) if flat else "c"
@@ -240,12 +266,47 @@ class Turn:
         old = None
         while old != body:
             old = body
+            for n in self.f.same:
+                body = re.sub(r"\(" + re.escape(n) + r" (" + WORD + r")\)", lambda m: m[1], body)
+                body = re.sub(r"(?<![^\s(){};,])" + re.escape(n) + r" (" + WORD + r")", lambda m: m[1], body)
+            for n, b in self.f.values.items():
+                if not re.search(r"(?<![^\s(){};,])" + re.escape(n) + r" ", body):
+                    continue
+                inner = answer_text(self.f, self.place, clause(b)[0], clause(b)[1], {}, [], self.f.said).strip()
+                inner = re.sub(r"(?<![^\s(){};,])c\.", "\x01c.", inner)
+                one = re.fullmatch(WORD, inner)
+                body = re.sub(r"\(" + re.escape(n) + r" (" + WORD + r")\)(?!\.)", lambda m: inner if one else "(" + inner + ")", body)
+                body = re.sub(r"\(" + re.escape(n) + r" (" + WORD + r")\)(?=\.)", lambda m: "(" + inner + ")", body)
+                body = re.sub(r"(?<![^\s(){};,])" + re.escape(n) + r" (" + WORD + r")", lambda m: inner if one else "(" + inner + ")", body)
             body = re.sub(r"(?:^|(?<=[\s(]))()let ([^\s:=()]+) = (" + WORD + r") in(?:\n[ ]*| |$)", alias, body, count=0)
         for h in helpers:
-            body = re.sub(r"\(" + re.escape(h) + r" (" + WORD + r")\)", lambda m: self.helper(h, m), body)
-            body = re.sub(r"(?<![^\s(){};,])" + re.escape(h) + r" (" + WORD + r")", lambda m: self.helper(h, m), body)
+            body = re.sub(r"\(" + re.escape(h) + r" (" + WORD + r")\)|(?<![^\s(){};,])" + re.escape(h) + r" (" + WORD + r")", lambda m: self.helper(h, m), body)
         body = self.ways(self.elims(body))
         return re.sub(WORD + r"(?= =\s)?", lambda m: m[0] if "." not in m[0] and re.match(r" =\s", body[m.end():]) else self.path(m[0]), body)
+
+    def arms_of(self, text):
+        """The variables and the texts of the arms by inl and inr, those of an `elim` within the last among them."""
+        arms, depth, last = [], 0, 0
+        for i, c in enumerate(text):
+            depth += (c in "({[") - (c in ")}]")
+            if c == "|" and depth == 0:
+                arms.append(text[last:i])
+                last = i + 1
+        arms = [a.strip() for a in arms + [text[last:]] if a.strip()]
+        out = []
+        for a in arms:
+            g = re.fullmatch(r"(inl|inr) (\S+) ↦\s(.*)", a, re.S)
+            if not g:
+                return None
+            inner = re.fullmatch(r"\s*elim " + re.escape(g[2]) + r" \[(.*)\]\s*", g[3], re.S)
+            if inner:
+                more = self.arms_of(inner[1])
+                if not more:
+                    return None
+                out += more
+            else:
+                out.append((g[2], g[3]))
+        return out
 
     def elims(self, body):
         """The same of an `elim` by inl and inr."""
@@ -259,23 +320,16 @@ class Turn:
                 break
         flat = self.f.flat(self.place, self.alias[m[1].split(".")[0]] + m[1].split(".")[1:]) if m[1].split(".")[0] in self.alias else None
         kinds = self.f.ways.get(flat[-1]) if flat else None
-        arms, depth, last = [], 0, at + 1
-        for i in range(at + 1, k):
-            depth += (body[i] in "({[") - (body[i] in ")}]")
-            if body[i] == "|" and depth == 0:
-                arms.append(body[last:i])
-                last = i + 1
-        arms = [a.strip() for a in arms + [body[last:k]] if a.strip()]
-        got = [re.fullmatch(r"(inl|inr) (\S+) ↦\s(.*)", a, re.S) for a in arms]
-        if not kinds or len(kinds) != len(arms) or not all(got):
+        got = self.arms_of(body[at + 1:k])
+        if not kinds or not got or len(kinds) != len(got):
             self.f.said.append(f"elim of {m[1]} by hand")
             return body[:m.end()] + self.elims(body[m.end():])
         out = []
         for g, (ctor, fields) in zip(got, kinds):
-            inside = self.elims(g[3])
-            self.lasts(g[2], inside)
-            inside = re.sub(WORD, lambda w: self.field(w[0], g[2], fields), inside)
-            out.append(f"{ctor} {g[2]} ↦ {inside}")
+            inside = self.elims(g[1])
+            self.lasts(g[0], inside)
+            inside = re.sub(WORD, lambda w: self.field(w[0], g[0], fields), inside)
+            out.append(f"{ctor} {g[0]} ↦ {inside}")
             self.f.imports.add(ctor)
         return body[:m.start()] + "elim " + ".".join(["\x01c"] + flat + ["branch"]) + " [ " + " | ".join(out) + " ]" + self.elims(body[k + 1:])
 
@@ -293,12 +347,21 @@ class Turn:
         if inner.endswith(".branch") and " " not in inner and inner.split(".")[0] in self.alias:
             flat = self.f.flat(self.place, self.alias[inner.split(".")[0]] + inner.split(".")[1:-1])
             kinds = self.f.ways.get(flat[-1]) if flat else None
-        if not kinds or len(kinds) != 2:
+        texts = [one]
+        while kinds and len(texts) < len(kinds) - 1:
+            m = re.fullmatch(r"\(\s*⊎_elim\s(.*)\)", two, re.S) or re.fullmatch(r"\(λ \S+\.\s*⊎_elim\s(.*?)\s\S+\)", two, re.S)
+            if not m:
+                break
+            first, i2 = argument(m[1], 0)
+            two, _ = argument(m[1], i2)
+            texts.append(first)
+        texts.append(two)
+        if not kinds or len(kinds) != len(texts):
             if inner.endswith(".branch"):
                 self.f.said.append(f"ways of {inner} by hand: {kinds and len(kinds)}")
             return body[:at + 7] + self.ways(body[at + 7:])
         arms = []
-        for text, (ctor, fields) in zip((one, two), kinds):
+        for text, (ctor, fields) in zip(texts, kinds):
             m = re.fullmatch(r"\(λ (\S+)\.\s(.*)\)", text, re.S)
             if not m:
                 self.f.said.append(f"a way of {inner} is no λ: {text[:60]}")
@@ -315,6 +378,7 @@ class Turn:
         found = [int(m[1]) for m in re.finditer(r"(?<![^\s(){};,])" + re.escape(var) + r"\.(\d+)(?![^\s(){};,])", text)]
         if found:
             self.last[var] = max(found)
+        self.called[var] = sorted({int(m[1]) for m in re.finditer(r"(?<![^\s(){};,])" + re.escape(var) + r"\.(\d+)\.(?:ensures|new|result)", text)})
 
     def chosen(self, parts, fields):
         """The field at a position of a tuple that may have lacked some of today's fields."""
@@ -327,8 +391,13 @@ class Turn:
             k = len(fits) - 1 - (last - n)
             return fits[k] if 0 <= k < len(fits) else (fields[n] if n < len(fields) else None)
         kind = {"ensures": r"(?!if-|then-|else-|struct_|way_|loop-|in-|in_|t\d|\S*-is$)", "new": r"(?!if-|then-|struct_|way_)", "taken": r"if-|then-|else-", "left": r"if-|then-|else-", "true": r"if-|then-|else-", "false": r"if-|then-|else-"}.get(parts[2])
+        calls = [f for f in fields if f in self.f.calls]
+        if parts[2] in ("ensures", "new", "result") and len(calls) == len(self.called.get(parts[0], [])) and n in self.called[parts[0]]:
+            return calls[self.called[parts[0]].index(n)]
         order = sorted(range(len(fields)), key=lambda i: (abs(i - n), i < n))
         for i in order:
+            if parts[2] in ("ensures", "new", "result") and fields[i] not in self.f.calls:
+                continue
             if kind is None or re.match(kind, fields[i]):
                 return fields[i]
         return None
@@ -354,7 +423,7 @@ class Turn:
         return ".".join(["\x01" + var, fields[0]] + rest)
 
     def helper(self, h, m):
-        parts = m[1].split(".")
+        parts = (m[1] or m[2]).split(".")
         if parts[0] not in self.alias:
             return m[0]
         if h not in self.used:
@@ -380,7 +449,11 @@ def invariants(f, found, key, said):
             if len(params) != len(wanted):
                 said.append(f"{kind}-{old}: {len(params)} parameters for {len(wanted)}: {params} {wanted}")
             to = dict(zip(params, wanted))
-            body = re.sub(WORD, lambda m: ".".join([to.get(m[0].split(".")[0], m[0].split(".")[0])] + m[0].split(".")[1:]), body)
+            for binder in re.findall(r"λ ([^.()]+)\. ", body):
+                for v in binder.split():
+                    if v in to:
+                        said.append(f"{kind}-{old}: {v} is bound again")
+            body = re.sub(WORD, lambda m: m[0] if m[0].endswith(".") else ".".join([to.get(m[0].split(".")[0], m[0].split(".")[0])] + m[0].split(".")[1:]), body)
             rows += ["\n".join(b["notes"])] if b["notes"] else []
             rows.append("\n".join([f"abbrev pub {kind}-{new} : goal.{kind}-{new}"] + b["unf"] + [f"{kind}-{new} l = {body}"]))
     return rows
@@ -393,7 +466,15 @@ def trivial(body):
 def answers(f, decls, said):
     helpers = {}
     for b in decls:
-        if b["name"] and re.search(r":\s*(?:\n\s*)?\(\w+ : tie\.", "\n".join(b["sig"])):
+        if b["name"] and re.search(r":\s*(?:\n\s*)?(?:\(\w+ : )?tie\.(?!Need)[^→]*→\s*tie\.\S[^→]*$", "\n".join(b["sig"])):
+            f.same.add(b["name"])
+    for b in decls:
+        if b["name"] in f.same:
+            continue
+        if b["name"] and clause(b) and len(clause(b)[0]) == 1 and re.search(r"^(?:(?:pub|abbrev) )*\S+ :\s*(?:\n\s*)?tie\.(?!Need)[^→]*→\s*[^→]*$", "\n".join(b["sig"])):
+            f.values[b["name"]] = b
+            continue
+        if b["name"] and re.search(r":\s*(?:\n\s*)?(?:\(\w+ : )?tie\.(?!Need)[^→]*→", "\n".join(b["sig"])):
             helpers[b["name"]] = b
     rows, kept = [], []
     for b in decls:
@@ -407,7 +488,7 @@ def answers(f, decls, said):
             continue
         if re.match(r"(invariant|decreases)-", b["name"]):
             continue
-        if b["name"] in helpers:
+        if b["name"] in helpers or b["name"] in f.same or b["name"] in f.values:
             continue
         if not m:
             kept.append("\n".join(b["notes"] + b["sig"] + b["unf"] + b["body"]))
@@ -443,6 +524,15 @@ def answers(f, decls, said):
                 text = lead[1] + " record { " + "; ".join(f"{n} = {x}" for n, x in zip(names, parts)) + " }"
             else:
                 said.append(f"{new}: {len(parts)} parts for {names}")
+        promised = ENSURED.get((f.crate, f.module.split(".")[-1].lstrip("+"))) if new.startswith("returns") else None
+        if promised:
+            lead = re.match(r"((?:\s*let .*? in(?=\s))*)(.*)$", text, re.S)
+            parts = parts_of(lead[2])
+            if len(parts) == len(promised):
+                text = lead[1] + " record { " + "; ".join(f"{n} = {x}" for n, x in zip(promised, parts)) + " }"
+            elif not lead[2].strip().startswith("record"):
+                rest = " ".join(lead[2].split())
+                text = lead[1] + f" let all = {rest} in record {{ " + "; ".join(f"{n} = all.{i}" for i, n in enumerate(promised)) + " }"
         extra = "".join(" " + p for p in params[1:])
         text = text.strip("\n")
         joint = "\n" if "\n" in text and not text.startswith("\n") and re.match(r"\s*let ", text) else " "
@@ -472,7 +562,7 @@ def helper_let(f, place, h, helpers, unf, said, depth):
         said.append(f"helper {h} too deep")
         return ""
     sig = "\n".join(b["sig"])
-    m = re.search(r":\s*\((\w+) : tie\.[^()]*\)\s*→\s*(.*)$", sig, re.S)
+    m = re.search(r":\s*\((\w+) : tie\.[^()]*\)\s*→\s*(.*)$", sig, re.S) or re.search(r":\s*()tie\.[^→]*→\s*(.*)$", sig, re.S)
     got = clause(b)
     if not m or not got:
         said.append(f"helper {h} is to be done by hand")
@@ -482,7 +572,7 @@ def helper_let(f, place, h, helpers, unf, said, depth):
         said.append(f"helper {h} has a where")
     var, typ = m[1], m[2]
     params, body = got
-    typ = answer_text(f, place, [var], typ, {}, unf, said).replace("\x01", "")
+    typ = answer_text(f, place, [var or "c"], typ, helpers, unf, said, 3).replace("\x01", "")
     inner = answer_text(f, place, params, body, helpers, unf, said, depth + 1)
     if params[1:]:
         inner = "λ " + " ".join(params[1:]) + ". " + inner.strip()
@@ -496,7 +586,7 @@ def convert(path, key, data, crate):
     folder = os.path.dirname(path)
     module = os.path.relpath(folder, os.path.join(TOP, "crates", crate, "proofs")).replace("/", ".")
     f = Function(data, said, os.path.join(GENERATED, f"Rattle-{crate}-proofs", *module.split("."), "Lts.antt"))
-    f.crate = crate
+    f.crate, f.module = crate, module
     found = {b["name"]: b for b in decls if b["name"]}
     kept_uses = [u for u in uses if not re.search(r"\.(Statement\.\{statement\}|Tie as tie)$", u)]
     wrote = []
@@ -543,8 +633,8 @@ def convert(path, key, data, crate):
 
 
 def main(argv):
-    global GENERATED, REQUIRED
-    REQUIRED = required()
+    global GENERATED, REQUIRED, ENSURED
+    REQUIRED, ENSURED = required("requires"), required("ensures")
     GENERATED = os.path.dirname(argv[0])
     data = json.load(open(argv[0]))
     crate = argv[1]

@@ -60,7 +60,7 @@ module _ {x ring₀ : List ℕ} {a : ℕ} (w : Prunable x ring₀ a) where
         begun = omega (arith, ap bit (eq-eqb a a refl));
         once = λ u. omega (arith, same u, whole.distinct.once u);
         inside = λ u h. whole.distinct.inside u (omega (arith, h, same u));
-        own = λ u h. whole.own_val u (omega (arith, h, same u));
+        own = λ u h. whole.own u (omega (arith, h, same u));
         all = λ u h q c. omega (arith, same u, whole.all u h q c);
       }
 

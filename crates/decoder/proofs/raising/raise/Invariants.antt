@@ -1,0 +1,19 @@
+-- `raise` meets its contract: each turn looks at one name, and grows its ring where that is odd. Assumes nothing.
+use Prim.Native.Nat.{◌≤◌, ◌<◌, ◌-◌}
+use mathlib.Core.Path.{◌≡◌}
+use mathlib.Core.Logic.{⊎_elim}
+use native.Mathlib.Numerals.{add-one}
+use native.Mathlib.Omega.{arith}
+use lib.ListN.{get_or}
+use borrow.Author.Tests.{lt-ltb, le-ltb}
+use Rattle.decoder.specs.Figures.{even_mark}
+use Rattle.decoder.specs.Raising.{Raisable, RaisedBy}
+use Rattle.decoder.proofs.RingRaising.{raise_begins, raise_passes, prunable, ring_raisable, raise_adds}
+use Rattle.decoder.proofs.raising.raise.Given as goal
+
+abbrev pub invariant-loop-a : goal.invariant-loop-a
+invariant-loop-a l = (l.growing.from ≤ l.a) × (l.a ≤ l.growing.to)
+    × ((w : Raisable l.latest l.earlier l.figure l.growing l.exposure l.initial.ring l.initial.support l.initial.filled) → RaisedBy w l.a l.count l.ring l.support l.filled)
+
+abbrev pub decreases-loop-a : goal.decreases-loop-a
+decreases-loop-a l = l.growing.to - l.a
