@@ -2,7 +2,6 @@
 use mathlib.Core.Path.{refl, ap}
 use mathlib.Core.Bool.{true, false}
 use native.Mathlib.Omega.{arith}
-use borrow.Author.Tests.{not-true, not-false}
 use lib.ListN.{length}
 use Rattle.model.specs.declared.answers.Player.TheVariants.{Blocker}
 use Rattle.model.specs.Game.{held_by}
@@ -23,11 +22,11 @@ overflow_add-by_turns c =
 pub returns-then-not-by_turns : goal.returns-then-not-by_turns
 returns-then-not-by_turns c = rw (
   answered _ _ _ _ _ refl c.edge_above.ensures (ap edge_found c.in_default.is),
-  moves_counted _ _ _ false c.count-winders.ensures c.count-blockers.ensures (not-true _ c.if-not-by_turns.true-raw),
+  moves_counted _ _ _ false c.count-winders.ensures c.count-blockers.ensures c.if-not-by_turns.true,
 )
 
 pub returns : goal.returns
 returns c = rw (
   answered _ _ _ _ _ refl c.edge_above.ensures (ap edge_found c.in_default.is),
-  moves_counted _ _ _ true c.count-winders.ensures c.count-blockers.ensures (not-false _ c.if-not-by_turns.false-raw),
+  moves_counted _ _ _ true c.count-winders.ensures c.count-blockers.ensures c.if-not-by_turns.false,
 )
