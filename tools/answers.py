@@ -61,6 +61,28 @@ def required(word):
     return found
 
 
+def split_lets(text):
+    """The `let`s with which a text begins, and what they stand around."""
+    at = 0
+    while True:
+        m = re.match(r"\s*let\s", text[at:])
+        if not m:
+            return text[:at], text[at:]
+        i, depth, open_lets = at + m.end(), 0, 1
+        while i < len(text) and open_lets:
+            c = text[i]
+            depth += (c in "({[") - (c in ")}]")
+            w = re.match(r"(?<![^\s(){};,])(let|in)(?![^\s(){};,])", text[i:]) if depth == 0 and (i == 0 or text[i - 1] in " \n(") else None
+            if w:
+                open_lets += 1 if w[1] == "let" else -1
+                i += len(w[1])
+            else:
+                i += 1
+        if open_lets:
+            return text[:at], text[at:]
+        at = i
+
+
 def parts_of(text):
     """The parts of a tuple; nested to the right they are one tuple."""
     text = text.strip()
@@ -147,6 +169,14 @@ class Function:
                     rest = [{"taken": "true", "left": "false"}.get(rest[0], rest[0])] + rest[1:]
                 if rest and rest[0] in ("inv", "came"):
                     rest = [{"inv": "invariant", "came": "branch"}[rest[0]]] + rest[1:]
+                promised = ENSURED.get((str(self.places.callee[p]).split("::")[0], str(self.places.callee[p]).split("::")[-1]))
+                if promised and len(rest) > 1 and rest[0] == "ensures" and rest[1].isdigit():
+                    i, tail = 0, rest[1:]
+                    while i < len(promised) - 1 and tail and tail[0] == "1":
+                        i, tail = i + 1, tail[1:]
+                    if i < len(promised) - 1 and tail and tail[0] == "0":
+                        tail = tail[1:]
+                    rest = ["ensures", promised[i]] + tail
                 if rest and rest[0] == "new" and self.params.get(self.places.callee[p]):
                     names = self.params[self.places.callee[p]]
                     i, tail = 0, rest[1:]
@@ -518,7 +548,7 @@ def answers(f, decls, said):
         callee = re.sub(r"_requires(_\d+)?$", "", need).rstrip("0123456789")
         names = REQUIRED.get((f.crate, callee), REQUIRED.get(callee)) if "requires" in need else None
         if names:
-            lead = re.match(r"((?:\s*let .*? in(?=\s))*)(.*)$", text, re.S)
+            lead = (text,) + split_lets(text)
             parts = parts_of(lead[2])
             if len(parts) == len(names):
                 text = lead[1] + " record { " + "; ".join(f"{n} = {x}" for n, x in zip(names, parts)) + " }"
@@ -526,7 +556,7 @@ def answers(f, decls, said):
                 said.append(f"{new}: {len(parts)} parts for {names}")
         promised = ENSURED.get((f.crate, f.module.split(".")[-1].lstrip("+"))) if new.startswith("returns") else None
         if promised:
-            lead = re.match(r"((?:\s*let .*? in(?=\s))*)(.*)$", text, re.S)
+            lead = (text,) + split_lets(text)
             parts = parts_of(lead[2])
             if len(parts) == len(promised):
                 text = lead[1] + " record { " + "; ".join(f"{n} = {x}" for n, x in zip(promised, parts)) + " }"
@@ -576,7 +606,10 @@ def helper_let(f, place, h, helpers, unf, said, depth):
     inner = answer_text(f, place, params, body, helpers, unf, said, depth + 1)
     if params[1:]:
         inner = "λ " + " ".join(params[1:]) + ". " + inner.strip()
-    return f"let {h} : {' '.join(typ.split())} =\n    {inner.strip()} in\n    ".replace("\x01", "")
+    typ = " ".join(typ.split())
+    if "let " in typ:
+        typ = f"({typ})"
+    return f"let {h} : {typ} =\n    {inner.strip()} in\n    ".replace("\x01", "")
 
 
 def convert(path, key, data, crate):

@@ -28,13 +28,10 @@ use Rattle.faces.specs.Lent.{ForFaces, Judged, Answered}
 use Rattle.faces.proofs.BuiltTorus.{edge_bytes, sheet_valid}
 use Rattle.faces.proofs.FaceBytes.{face_bytes_cong}
 
--- a verdict whose case is not the second one, which is same, leaves the bytes
-others_leave : {A : Type 0} (r : Verdict) (new old : A)
-    → (tag_of the_type r ≡ 0) ⊎ ((tag_of the_type r ≡ 2) ⊎ (tag_of the_type r ≡ 3)) → old ≡ same_or r new old
+-- a verdict other than same leaves the bytes
+others_leave : {A : Type 0} (r : Verdict) (new old : A) → (r ≡ Same → ⊥) → old ≡ same_or r new old
 others_leave (Off v) new old w = refl
-others_leave Same new old (inl p) = absurd (omega arith)
-others_leave Same new old (inr (inl p)) = absurd (omega arith)
-others_leave Same new old (inr (inr p)) = absurd (omega arith)
+others_leave Same new old w = absurd (w refl)
 others_leave (Wound x) new old w = refl
 others_leave (Refused n) new old w = refl
 
@@ -79,5 +76,5 @@ module _ (L : ℕ) (syndrome loss handed faces : List ℕ) (w : ForFaces L syndr
             ap (λ t. ones handed e ⊕ t)
             (ap (λ l. ones l e) written ∙ ones_bytes (2 * (L * L)) (corrected (torus_sheet L syndrome loss)) e h)
 
-  pub unmarked : (tag_of the_type r ≡ 0) ⊎ ((tag_of the_type r ≡ 2) ⊎ (tag_of the_type r ≡ 3)) → Answered L syndrome loss handed faces r faces
+  pub unmarked : (r ≡ Same → ⊥) → Answered L syndrome loss handed faces r faces
   unmarked other = record { result = answer_is; faces_filled = others_leave r _ faces other }

@@ -4,11 +4,6 @@ pub mod PutLaws
 pub mod PrintLaws
 pub mod PieceLaws
 pub mod NumberLaws
-pub mod ReaderOwnership
-pub mod Bodies
-pub mod Again
-pub mod ReaderCalls
-pub mod LineLoans
 pub mod FieldReadingLaws
 pub mod LineReadingLaws
 pub mod ReadLaws
@@ -17,7 +12,6 @@ pub mod TakeLaws
 pub mod HoldLaws
 pub mod ProgressLaws
 pub mod StageLaws
-pub mod ReadState
 pub mod ReadOutcome
 pub mod WriteOutcome
 pub mod TextCalls

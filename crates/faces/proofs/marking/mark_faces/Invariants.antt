@@ -1,0 +1,22 @@
+-- `faces::marking::mark_faces` meets its contract. The loop's invariant: the first i marks are those of the definition. Assumes nothing.
+use Prim.Native.Nat.{◌*◌, ◌-◌, ◌≤◌}
+use mathlib.Core.Path.{◌≡◌, refl}
+use native.Mathlib.Nat.{one-le-mul}
+use native.Mathlib.Omega.{arith}
+use borrow.Author.Rules.{rules}
+use lib.ListN.{length, length-set}
+use Rattle.model.specs.Sums.{bit, ones}
+use Rattle.model.specs.Winding.{together}
+use Rattle.model.specs.Faces.{face_of, face_bytes}
+use Rattle.torus.specs.Filling.{Filled}
+use Rattle.torus.proofs.Filling.{filled_more, filled_all}
+use Rattle.torus.proofs.Numbering.{square_limit}
+use Rattle.faces.proofs.MarkSteps.{starts_unmarked}
+use Rattle.faces.proofs.marking.mark_faces.Given as goal
+
+abbrev pub invariant-loop-i : goal.invariant-loop-i
+invariant-loop-i l = (1 ≤ l.i) × (l.i ≤ l.side * l.side) × (length l.faces ≡ l.side * l.side)
+    × Filled (λ k. bit (face_of l.side (together (ones l.handed) (ones l.correction)) k)) l.i l.faces
+
+abbrev pub decreases-loop-i : goal.decreases-loop-i
+decreases-loop-i l = l.side * l.side - l.i
