@@ -17,7 +17,7 @@ use Rattle.model.proofs.CountLaws.{count_one}
 use Rattle.theory.proofs.Components.{labels_length}
 use Rattle.theory.proofs.OddMembers.{odd_one}
 use Rattle.theory.proofs.MarksAside.{unmarked_inside}
-use Rattle.union_find.specs.Trees.{at, root_of}
+use Rattle.union_find.specs.Trees.{root_of}
 use Rattle.union_find.specs.Joining.{Mirrors}
 use Rattle.union_find.proofs.Fresh.{alone_root}
 use Rattle.union_find.proofs.Packing.{alone_packed, packed_alone}

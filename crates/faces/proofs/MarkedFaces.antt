@@ -3,13 +3,9 @@
 use Prim.Native.Nat.{ℕ, ◌*◌, ◌<◌}
 use mathlib.Core.Path.{◌≡◌, refl, sym, ap, ◌∙◌}
 use mathlib.Core.List.{List}
-use mathlib.Core.Logic.{◌⊎◌, inl, inr}
-use native.Mathlib.Omega.{arith}
-use denote.Enum.Declared.{tag_of}
 use lib.ListN.{length}
 use Rattle.model.specs.declared.answers.Verdict.{Verdict}
 use Rattle.model.specs.declared.answers.Verdict.TheVariants.{Off, Same, Wound, Refused}
-use Rattle.model.specs.contracts.answers.Verdict.{the_type}
 use Rattle.model.specs.Sums.{◌⊕◌, ones, bytes}
 use Rattle.model.specs.Board.{ValidBytes, edges}
 use Rattle.model.specs.Winding.{together}

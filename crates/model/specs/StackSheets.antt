@@ -1,7 +1,7 @@
 -- Document 02, K1: stacks by hand, entry by entry, with a history, what is read of it, and a key. Gathered as one list, each proved by
 -- computation.
 -- Assumes nothing.
-use Rattle.std.specs.Prelude.{ℕ, zero, suc, ◌+◌, ◌≡◌, refl, List, [], ◌∷◌, ◌++◌}
+use Rattle.std.specs.Prelude.{ℕ, zero, suc, ◌≡◌, refl, List, [], ◌∷◌, ◌++◌}
 use Rattle.std.proofs.Common.{arith}
 use Rattle.model.specs.Sums.{Set, odd_up_to, count_up_to, some_up_to, first_up_to, values, ones, bytes, members}
 use Rattle.model.specs.Board.{without_open, Sheet}

@@ -2,12 +2,12 @@
 -- are in the array what they are as parents and sizes. Assumes nothing.
 use Prim.Native.Nat.{ℕ, ◌+◌, ◌-◌, ◌≤◌, ◌<◌}
 use mathlib.Core.Path.{◌≡◌, refl, sym, ap, ap₂, ◌∙◌}
-use mathlib.Core.Logic.{◌≢◌, ⊎_elim}
-use mathlib.Core.Bool.{Bool, true, false, cond}
+use mathlib.Core.Logic.{◌≢◌}
+use mathlib.Core.Bool.{Bool, true, false}
 use mathlib.Core.List.{List}
 use native.Mathlib.Decide.{ℕ_discrete}
 use native.Mathlib.Omega.{arith}
-use borrow.Author.Tests.{eqb-true, ltb-true, ltb-false, eq-eqb, ne_eqb, lt-ltb, le-ltb}
+use borrow.Author.Tests.{ltb-true, ltb-false, eq-eqb, ne_eqb, lt-ltb, le-ltb}
 use lib.ListN.{length, set, replicate, length-set, length-replicate, get_or-replicate}
 use lib.Seq.{get_or-set_same, get_or-set_other}
 use lib.Dec.{eqb, ltb}
@@ -15,7 +15,7 @@ use Rattle.model.specs.Board.{vertex_limit}
 use Rattle.model.proofs.ListLaws.{length_values, get_d_values, values_are}
 use Rattle.union_find.specs.declared.Joined.{Joined}
 use Rattle.union_find.specs.declared.Joined.TheVariants.{Hung, Already}
-use Rattle.union_find.specs.Trees.{at, root_of, Climbs, Trees, Alone, RootIs, TwoRoots, hung, grown}
+use Rattle.union_find.specs.Trees.{at, root_of, Climbs, Alone, RootIs, TwoRoots, hung, grown}
 use Rattle.union_find.specs.Joining.{joined, joined_by, sizes_after, Joins}
 use Rattle.union_find.specs.Packed.{root_mark, parent_at, parents_of, sizes_of, Packed, EachAlone, Compresses, hung_in, JoinsIn}
 use Rattle.union_find.proofs.Roots.{root_top, root_inside}

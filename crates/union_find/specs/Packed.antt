@@ -7,7 +7,7 @@ use Rattle.model.specs.Board.{vertex_limit}
 use Rattle.model.specs.declared.numbers.Vertex.{Vertex}
 use Rattle.union_find.specs.declared.Joined.{Joined}
 use Rattle.union_find.specs.declared.Joined.TheVariants.{Hung, Already}
-use Rattle.union_find.specs.Trees.{at, root_of, Trees, TwoRoots, Compressed}
+use Rattle.union_find.specs.Trees.{at, Trees, TwoRoots, Compressed}
 use Rattle.union_find.specs.Joining.{joined}
 
 abbrev pub root_mark : ℕ

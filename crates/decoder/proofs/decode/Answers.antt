@@ -1,5 +1,4 @@
 -- `decode` meets both of its promises. Assumes nothing.
-use borrow.Author.Rules.{rules}
 use Rattle.decoder.proofs.DecodeLaws.{decodes}
 use Rattle.decoder.proofs.decode.Goals as goal
 

@@ -1,5 +1,4 @@
 -- `decode_rounds` meets both of its promises. Assumes nothing.
-use borrow.Author.Rules.{rules}
 use Rattle.decoder.proofs.DecodeLaws.{decodes_in_rounds}
 use Rattle.decoder.proofs.decode_rounds.Goals as goal
 

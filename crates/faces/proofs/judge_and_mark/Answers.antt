@@ -1,5 +1,4 @@
 -- `faces::judge_and_mark` meets its contract: under same the faces are marked from the correction that was compared. Assumes nothing.
-use borrow.Author.Rules.{rules}
 use Rattle.faces.proofs.MarkedFaces.{markable, marked, unmarked}
 use Rattle.faces.proofs.judge_and_mark.Goals as goal
 

@@ -1,8 +1,7 @@
 -- `packed::decode_packed` meets its contract: the refusal of a look at the words, or what decoding answers on the sheet that they hold;
 -- `sound` follows from the outcome. Assumes nothing.
 use mathlib.Core.Path.{ap}
-use borrow.Author.Rules.{rules}
-use Rattle.model.specs.Board.{Board, board_of}
+use Rattle.model.specs.Board.{board_of}
 use Rattle.board.specs.Checks.{test_of}
 use Rattle.packed.proofs.PackedDecoding.{packed_refused, packed_decoded}
 use Rattle.packed.proofs.decode_packed.Goals as goal

@@ -2,7 +2,6 @@
 -- nothing.
 use mathlib.Core.Path.{sym, ap, ◌∙◌}
 use native.Mathlib.Omega.{arith}
-use borrow.Author.Rules.{rules}
 use Rattle.board.specs.Checks.{test_of}
 use Rattle.board.proofs.Failures.{passed}
 use Rattle.packed.proofs.WordTests.{lit_passes}

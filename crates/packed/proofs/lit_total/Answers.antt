@@ -1,7 +1,6 @@
 -- `packed::lit_total` meets its contract: the refusal of the first test that fails, or the number of set bits. Assumes nothing.
 use mathlib.Core.Path.{sym, ap, ◌∙◌}
 use native.Mathlib.Omega.{arith}
-use borrow.Author.Rules.{rules}
 use Rattle.board.specs.Checks.{test_of}
 use Rattle.board.proofs.Failures.{passed}
 use Rattle.packed.proofs.WordTests.{lit_passes}

@@ -2,7 +2,6 @@
 -- outcome. Assumes nothing.
 use mathlib.Core.Path.{sym, ap, ◌∙◌}
 use native.Mathlib.Omega.{arith}
-use borrow.Author.Rules.{rules}
 use Rattle.board.specs.Checks.{test_of}
 use Rattle.board.proofs.Failures.{passed}
 use Rattle.packed.proofs.WordTests.{ForUnpacking, unpack_passes}

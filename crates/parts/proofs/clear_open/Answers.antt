@@ -1,11 +1,7 @@
-use Prim.Native.Nat.{◌≤◌, ◌-◌}
 use mathlib.Core.Path.{◌≡◌}
-use mathlib.Core.Logic.{⊎_elim}
 use native.Mathlib.Omega.{arith}
 use borrow.Author.Rules.{rules}
 use lib.ListN.{length}
-use Rattle.union_find.specs.Packed.{parents_of}
-use Rattle.parts.specs.RootParities.{Cleared}
 use Rattle.parts.proofs.Rooting.{root_limited}
 use Rattle.parts.proofs.Clearing.{cleared_none, cleared_one, cleared_pass}
 use Rattle.parts.proofs.clear_open.Goals.{else-opened-v-eq1, then-opened-v-eq1}

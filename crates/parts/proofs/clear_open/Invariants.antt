@@ -1,15 +1,9 @@
 -- `parts::clear_open` meets its contract. The loop's invariant: the entries of the roots of the open vertices passed are cleared.
 -- Assumes nothing.
 use Prim.Native.Nat.{◌≤◌, ◌-◌}
-use mathlib.Core.Path.{◌≡◌}
-use mathlib.Core.Logic.{⊎_elim}
-use native.Mathlib.Omega.{arith}
-use borrow.Author.Rules.{rules}
 use lib.ListN.{length}
 use Rattle.union_find.specs.Packed.{parents_of}
 use Rattle.parts.specs.RootParities.{Cleared}
-use Rattle.parts.proofs.Rooting.{root_limited}
-use Rattle.parts.proofs.Clearing.{cleared_none, cleared_one, cleared_pass}
 use Rattle.parts.proofs.clear_open.Given as goal
 
 abbrev pub invariant-loop-v : goal.invariant-loop-v

@@ -1,10 +1,8 @@
-use Prim.Native.Nat.{◌≤◌, ◌-◌}
 use mathlib.Core.Path.{◌≡◌}
 use native.Mathlib.Omega.{arith}
 use borrow.Author.Rules.{rules}
 use Rattle.model.specs.Board.{vertex_limit}
 use Rattle.model.specs.Refusals.{edges_of}
-use Rattle.parts.specs.Connection.{ConnectsUpTo}
 use Rattle.parts.proofs.Connecting.{fresh_room, connects_none, connects_more, connects_whole}
 use Rattle.parts.proofs.connect.Goals as goal
 

@@ -1,12 +1,6 @@
 -- `parts::connect` meets its contract. The loop's invariant: the trees are the parts by the edges passed. Assumes nothing.
 use Prim.Native.Nat.{◌≤◌, ◌-◌}
-use mathlib.Core.Path.{◌≡◌}
-use native.Mathlib.Omega.{arith}
-use borrow.Author.Rules.{rules}
-use Rattle.model.specs.Board.{vertex_limit}
-use Rattle.model.specs.Refusals.{edges_of}
 use Rattle.parts.specs.Connection.{ConnectsUpTo}
-use Rattle.parts.proofs.Connecting.{fresh_room, connects_none, connects_more, connects_whole}
 use Rattle.parts.proofs.connect.Given as goal
 
 abbrev pub invariant-loop-e : goal.invariant-loop-e

@@ -1,9 +1,6 @@
-use Prim.Native.Nat.{◌≤◌, ◌-◌}
 use borrow.Author.Rules.{rules}
 use borrow.Author.Tests.{eq-eqb, ne_eqb}
-use Rattle.board.proofs.Searching.{Passed, passed_none, passed_more, ends_at, ends_nowhere}
-use Rattle.union_find.specs.Packed.{parents_of}
-use Rattle.parts.specs.RootParities.{marked}
+use Rattle.board.proofs.Searching.{passed_none, passed_more, ends_at, ends_nowhere}
 use Rattle.parts.proofs.Rooting.{root_limited}
 use Rattle.parts.proofs.first_marked.Goals as goal
 

@@ -1,11 +1,8 @@
 -- `parts::first_marked` meets its contract. The loop's invariant: no vertex before `next` has a marked root. Assumes nothing.
 use Prim.Native.Nat.{◌≤◌, ◌-◌}
-use borrow.Author.Rules.{rules}
-use borrow.Author.Tests.{eq-eqb, ne_eqb}
-use Rattle.board.proofs.Searching.{Passed, passed_none, passed_more, ends_at, ends_nowhere}
+use Rattle.board.proofs.Searching.{Passed}
 use Rattle.union_find.specs.Packed.{parents_of}
 use Rattle.parts.specs.RootParities.{marked}
-use Rattle.parts.proofs.Rooting.{root_limited}
 use Rattle.parts.proofs.first_marked.Given as goal
 
 abbrev pub invariant-loop-next : goal.invariant-loop-next

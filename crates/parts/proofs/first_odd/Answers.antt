@@ -1,6 +1,5 @@
 -- `parts::first_odd` meets its contract: there are an open byte and a syndrome byte for each vertex, so the parities, and what is cleared of
 -- them, are those of all vertices; where no entry is left, no part is odd. Assumes nothing.
-use borrow.Author.Rules.{rules}
 use Rattle.parts.proofs.Marking.{first_odd_lem}
 use Rattle.parts.proofs.NothingMarked.{none_marked}
 use Rattle.parts.proofs.first_odd.Goals as goal

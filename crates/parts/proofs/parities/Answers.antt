@@ -1,12 +1,9 @@
-use Prim.Native.Nat.{◌≤◌, ◌<◌, ◌-◌}
+use Prim.Native.Nat.{◌<◌}
 use mathlib.Core.Path.{◌≡◌, refl}
-use mathlib.Core.Logic.{⊎_elim}
 use native.Mathlib.Omega.{arith}
 use borrow.Author.Rules.{rules}
 use lib.ListN.{length}
 use Rattle.model.specs.Board.{vertex_limit}
-use Rattle.union_find.specs.Packed.{parents_of}
-use Rattle.parts.specs.RootParities.{Parities}
 use Rattle.parts.proofs.Rooting.{root_limited}
 use Rattle.parts.proofs.Flipping.{parities_none, parity_small, parities_flip, parities_pass}
 use Rattle.parts.proofs.parities.Goals.{else-syndrome-v-eq1, then-syndrome-v-eq1}

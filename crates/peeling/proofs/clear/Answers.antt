@@ -1,9 +1,6 @@
-use Prim.Native.Nat.{◌-◌}
-use mathlib.Core.Path.{◌≡◌, refl}
+use mathlib.Core.Path.{refl}
 use native.Mathlib.Omega.{arith}
 use borrow.Author.Rules.{rules}
-use lib.ListN.{length}
-use Rattle.peeling.specs.Peeling.{Clear}
 use Rattle.peeling.proofs.CutLaws.{none_clear, clear_next}
 use Rattle.peeling.proofs.clear.Goals as goal
 

@@ -1,11 +1,8 @@
 -- `peeling::clear` meets its contract. The loop's invariant: the bytes passed are 0. Assumes nothing.
 use Prim.Native.Nat.{◌-◌}
-use mathlib.Core.Path.{◌≡◌, refl}
-use native.Mathlib.Omega.{arith}
-use borrow.Author.Rules.{rules}
+use mathlib.Core.Path.{◌≡◌}
 use lib.ListN.{length}
 use Rattle.peeling.specs.Peeling.{Clear}
-use Rattle.peeling.proofs.CutLaws.{none_clear, clear_next}
 use Rattle.peeling.proofs.clear.Given as goal
 
 abbrev pub invariant-loop-e : goal.invariant-loop-e

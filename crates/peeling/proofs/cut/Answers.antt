@@ -1,5 +1,4 @@
 -- `peeling::cut` meets its contract, in each of its two cases. Assumes nothing.
-use borrow.Author.Rules.{rules}
 use borrow.Author.Tests.{not-true, not-false}
 use Rattle.peeling.proofs.FlipLaws.{all_flippable, still_flippable}
 use Rattle.peeling.proofs.CutLaws.{cut_even, cut_odd}

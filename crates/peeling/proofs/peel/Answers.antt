@@ -1,10 +1,8 @@
 use mathlib.Core.Path.{◌≡◌}
 use native.Mathlib.Omega.{arith}
-use borrow.Author.Rules.{rules}
 use Rattle.model.specs.Board.{vertex_limit}
-use Rattle.union_find.specs.Packed.{parents_of}
 use Rattle.peeling.proofs.CutLaws.{cut_bound}
-use Rattle.peeling.proofs.PeelLoop.{PeelingFrom, span_room, ends_flippable, from_start, from_cuttable, from_next, from_done}
+use Rattle.peeling.proofs.PeelLoop.{span_room, ends_flippable, from_start, from_cuttable, from_next, from_done}
 use Rattle.peeling.proofs.peel.Goals as goal
 
 pub span-listed-requires : goal.span-listed-requires

@@ -1,11 +1,6 @@
 -- `peeling::peel` meets its contract. The loop's invariant: all but k edges of the forest are cut. Assumes nothing.
-use mathlib.Core.Path.{◌≡◌}
-use native.Mathlib.Omega.{arith}
-use borrow.Author.Rules.{rules}
-use Rattle.model.specs.Board.{vertex_limit}
 use Rattle.union_find.specs.Packed.{parents_of}
-use Rattle.peeling.proofs.CutLaws.{cut_bound}
-use Rattle.peeling.proofs.PeelLoop.{PeelingFrom, span_room, ends_flippable, from_start, from_cuttable, from_next, from_done}
+use Rattle.peeling.proofs.PeelLoop.{PeelingFrom}
 use Rattle.peeling.proofs.peel.Given as goal
 
 abbrev pub invariant-loop-k : goal.invariant-loop-k

@@ -4,7 +4,7 @@ use mathlib.Core.Path.{sym}
 use native.Mathlib.Omega.{arith}
 use lib.Seq.{length-take-le}
 use borrow.Author.Rules.{rules}
-use Rattle.model.specs.TextOutcomes.{Buffers, buffers_of}
+use Rattle.model.specs.TextOutcomes.{buffers_of}
 use Rattle.text.proofs.HoldLaws.{zeros_sized}
 use Rattle.report.proofs.Readings.{SheetRead, refused_reads, counts_read}
 use Rattle.report.proofs.report.Goals as goal

@@ -1,6 +1,5 @@
 -- The number is the packed answer of the definition; what it is taken apart into is what `decode_packed` answered, with the buffers that it
 -- left. Assumes nothing.
-use borrow.Author.Rules.{rules}
 use Rattle.table.proofs.Exported.{decode_packed_exported}
 use Rattle.table.proofs.surface_decode_packed.Goals as goal
 

@@ -2,7 +2,6 @@
 -- left.
 -- Assumes nothing.
 use mathlib.Core.Path.{sym, ap, ◌∙◌}
-use borrow.Author.Rules.{rules}
 use Rattle.model.specs.Packing.{packed_rounds}
 use Rattle.table.proofs.Exported.{rounds_exported}
 use Rattle.table.proofs.surface_decode_rounds.Goals as goal

@@ -1,7 +1,6 @@
 -- The number is the packed answer of the definition; what it is taken apart into is what `distance` answered, with the buffer that it left.
 -- Assumes nothing.
 use mathlib.Core.Path.{sym, ap, ◌∙◌}
-use borrow.Author.Rules.{rules}
 use Rattle.model.specs.Packing.{packed_distance}
 use Rattle.table.proofs.Exported.{distance_exported}
 use Rattle.table.proofs.surface_distance.Goals as goal

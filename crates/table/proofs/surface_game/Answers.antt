@@ -1,5 +1,4 @@
 -- The number is the packed answer of the definition; what it is taken apart into is what `game` answered. Assumes nothing.
-use borrow.Author.Rules.{rules}
 use Rattle.table.proofs.Exported.{game_exported}
 use Rattle.table.proofs.surface_game.Goals as goal
 

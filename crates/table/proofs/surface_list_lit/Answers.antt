@@ -1,6 +1,5 @@
 -- The number is the packed answer of the definition; what it is taken apart into is what `list_lit` answered, with the buffer that it left.
 -- Assumes nothing.
-use borrow.Author.Rules.{rules}
 use Rattle.table.proofs.Exported.{list_exported}
 use Rattle.table.proofs.surface_list_lit.Goals as goal
 

@@ -1,5 +1,4 @@
 -- The number is the packed answer of the definition; what it is taken apart into is what `lit_total` answered. Assumes nothing.
-use borrow.Author.Rules.{rules}
 use Rattle.table.proofs.Exported.{lit_exported}
 use Rattle.table.proofs.surface_lit_total.Goals as goal
 

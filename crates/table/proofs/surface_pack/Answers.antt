@@ -1,7 +1,6 @@
 -- The number is the packed answer of the definition; what it is taken apart into is what `pack` answered, with the buffers that it left.
 -- Assumes nothing.
 use mathlib.Core.Path.{sym, ap, ◌∙◌}
-use borrow.Author.Rules.{rules}
 use Rattle.model.specs.Packing.{packed_words}
 use Rattle.table.proofs.Exported.{pack_exported}
 use Rattle.table.proofs.surface_pack.Goals as goal

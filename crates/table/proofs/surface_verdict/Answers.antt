@@ -1,6 +1,5 @@
 -- The number is the packed answer of the definition; what it is taken apart into is what `verdict` answered.
 -- Assumes nothing.
-use borrow.Author.Rules.{rules}
 use Rattle.table.proofs.Exported.{verdict_exported}
 use Rattle.table.proofs.surface_verdict.Goals as goal
 

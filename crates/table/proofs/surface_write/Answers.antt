@@ -1,7 +1,6 @@
 -- The number is the packed answer of the definition; what it is taken apart into is what `write` answered, with the buffer that it left.
 -- Assumes nothing.
 use mathlib.Core.Path.{sym, ap, ◌∙◌}
-use borrow.Author.Rules.{rules}
 use Rattle.model.specs.Packing.{packed_written}
 use Rattle.table.proofs.Exported.{write_exported}
 use Rattle.table.proofs.surface_write.Goals as goal

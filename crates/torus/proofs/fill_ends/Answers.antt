@@ -1,11 +1,8 @@
-use Prim.Native.Nat.{◌*◌, ◌-◌, ◌≤◌}
-use mathlib.Core.Path.{◌≡◌}
 use native.Mathlib.Omega.{arith}
-use lib.ListN.{length, length-set}
-use Rattle.model.specs.Torus.{torus_end, torus_ends}
+use lib.ListN.{length-set}
+use Rattle.model.specs.Torus.{torus_ends}
 use Rattle.torus.proofs.Numbering.{square_limit}
 use Rattle.torus.proofs.Writing.{ends_more}
-use Rattle.torus.specs.Filling.{Filled}
 use Rattle.torus.proofs.Filling.{filled_none, filled_all}
 use borrow.Author.Rules.{rules}
 use Rattle.torus.proofs.fill_ends.Goals as goal

@@ -1,14 +1,9 @@
 -- `torus::fill_ends` meets its contract. The loop's invariant: the first 4v ends are the torus's. Assumes nothing.
 use Prim.Native.Nat.{◌*◌, ◌-◌, ◌≤◌}
 use mathlib.Core.Path.{◌≡◌}
-use native.Mathlib.Omega.{arith}
-use lib.ListN.{length, length-set}
-use Rattle.model.specs.Torus.{torus_end, torus_ends}
-use Rattle.torus.proofs.Numbering.{square_limit}
-use Rattle.torus.proofs.Writing.{ends_more}
+use lib.ListN.{length}
+use Rattle.model.specs.Torus.{torus_end}
 use Rattle.torus.specs.Filling.{Filled}
-use Rattle.torus.proofs.Filling.{filled_none, filled_all}
-use borrow.Author.Rules.{rules}
 use Rattle.torus.proofs.fill_ends.Given as goal
 
 abbrev pub invariant-loop-v : goal.invariant-loop-v

@@ -1,10 +1,7 @@
-use Prim.Native.Nat.{◌*◌, ◌-◌, ◌≤◌}
-use mathlib.Core.Path.{◌≡◌}
 use native.Mathlib.Omega.{arith}
-use lib.ListN.{length, length-set}
-use Rattle.model.specs.Torus.{torus_mark, torus_marks}
+use lib.ListN.{length-set}
+use Rattle.model.specs.Torus.{torus_marks}
 use Rattle.torus.proofs.Numbering.{square_limit}
-use Rattle.torus.specs.Filling.{Filled}
 use Rattle.torus.proofs.Filling.{filled_none, filled_all}
 use Rattle.torus.proofs.Writing.{marks_more}
 use borrow.Author.Rules.{rules}

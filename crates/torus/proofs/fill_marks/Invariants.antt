@@ -1,14 +1,9 @@
 -- `torus::fill_marks` meets its contract. The loop's invariant: the first 2v marks are the torus's. Assumes nothing.
 use Prim.Native.Nat.{◌*◌, ◌-◌, ◌≤◌}
 use mathlib.Core.Path.{◌≡◌}
-use native.Mathlib.Omega.{arith}
-use lib.ListN.{length, length-set}
-use Rattle.model.specs.Torus.{torus_mark, torus_marks}
-use Rattle.torus.proofs.Numbering.{square_limit}
+use lib.ListN.{length}
+use Rattle.model.specs.Torus.{torus_mark}
 use Rattle.torus.specs.Filling.{Filled}
-use Rattle.torus.proofs.Filling.{filled_none, filled_all}
-use Rattle.torus.proofs.Writing.{marks_more}
-use borrow.Author.Rules.{rules}
 use Rattle.torus.proofs.fill_marks.Given as goal
 
 abbrev pub invariant-loop-v : goal.invariant-loop-v

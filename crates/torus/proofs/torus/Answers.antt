@@ -1,9 +1,7 @@
 -- `torus::torus` meets its contract: each refusal by its test, and otherwise what the two loops fill. Assumes nothing.
 use Prim.Native.Nat.{◌*◌}
 use mathlib.Core.Path.{refl, sym}
-use mathlib.Core.Logic.{⊎_elim}
 use native.Mathlib.Omega.{arith}
-use borrow.Author.Rules.{rules}
 use borrow.Author.Tests.{ltb-true, ltb-false, eqb-true, le-leb, eq-eqb, ne_eqb, not-true, not-false}
 use lib.ListN.{length}
 use lib.Dec.{eqb}

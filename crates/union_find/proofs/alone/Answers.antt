@@ -1,8 +1,6 @@
-use Prim.Native.Nat.{◌-◌, ◌≤◌}
 use mathlib.Core.Path.{◌≡◌}
 use native.Mathlib.Omega.{arith}
 use borrow.Author.Rules.{rules}
-use Rattle.union_find.specs.Packed.{Fits, EachAlone}
 use Rattle.union_find.proofs.Fresh.{alone_none, alone_next, fits_set}
 use Rattle.union_find.proofs.alone.Goals as goal
 

@@ -1,10 +1,6 @@
 -- `union_find::alone` meets its contract. The loop's invariant: the vertices passed are alone. Assumes nothing.
 use Prim.Native.Nat.{◌-◌, ◌≤◌}
-use mathlib.Core.Path.{◌≡◌}
-use native.Mathlib.Omega.{arith}
-use borrow.Author.Rules.{rules}
 use Rattle.union_find.specs.Packed.{Fits, EachAlone}
-use Rattle.union_find.proofs.Fresh.{alone_none, alone_next, fits_set}
 use Rattle.union_find.proofs.alone.Given as goal
 
 abbrev pub invariant-loop-v : goal.invariant-loop-v

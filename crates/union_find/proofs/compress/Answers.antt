@@ -1,7 +1,4 @@
-use borrow.Author.Rules.{rules}
-use Rattle.union_find.proofs.Roots.{steps}
-use Rattle.union_find.proofs.CompressLoop.{Passing, passing_none, passing_inside, passing_less, passing_next, passing_all}
-use Rattle.union_find.specs.Packed.{parents_of}
+use Rattle.union_find.proofs.CompressLoop.{passing_none, passing_less, passing_next, passing_all}
 use Rattle.union_find.proofs.compress.Goals as goal
 
 pub loop-w-init : goal.loop-w-init

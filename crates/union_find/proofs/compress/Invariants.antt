@@ -1,7 +1,6 @@
 -- `union_find::compress` meets its contract. The loop's invariant: the vertices passed on the way up hang under the root. Assumes nothing.
-use borrow.Author.Rules.{rules}
 use Rattle.union_find.proofs.Roots.{steps}
-use Rattle.union_find.proofs.CompressLoop.{Passing, passing_none, passing_inside, passing_less, passing_next, passing_all}
+use Rattle.union_find.proofs.CompressLoop.{Passing}
 use Rattle.union_find.specs.Packed.{parents_of}
 use Rattle.union_find.proofs.compress.Given as goal
 

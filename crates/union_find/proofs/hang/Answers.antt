@@ -1,7 +1,6 @@
 -- `union_find::hang` meets its contract: the sizes of two trees add up to no more than there are vertices. Assumes nothing.
 use mathlib.Core.Path.{refl}
 use native.Mathlib.Omega.{arith}
-use borrow.Author.Rules.{rules}
 use Rattle.union_find.proofs.Hanging.{both_fit}
 use Rattle.union_find.proofs.hang.Goals as goal
 

@@ -1,6 +1,5 @@
 -- `union_find::join` meets its contract, in each of its three cases. Assumes nothing.
 use native.Mathlib.Omega.{arith}
-use borrow.Author.Rules.{rules}
 use Rattle.union_find.proofs.JoinCases.{limits, hangable, hangable_back, joins_already, joins_first, joins_second}
 use Rattle.union_find.proofs.join.Goals as goal
 

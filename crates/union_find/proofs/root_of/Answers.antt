@@ -1,7 +1,6 @@
-use mathlib.Core.Path.{◌≡◌, sym, ap, ◌∙◌}
+use mathlib.Core.Path.{sym, ap, ◌∙◌}
 use native.Mathlib.Omega.{arith}
-use borrow.Author.Rules.{rules}
-use Rattle.union_find.specs.Trees.{root_of, InTrees}
+use Rattle.union_find.specs.Trees.{root_of}
 use Rattle.union_find.specs.Packed.{parents_of}
 use Rattle.union_find.proofs.Roots.{steps, steps_parent, root_self, root_parent}
 use Rattle.union_find.proofs.Packing.{root_here, parent_here, no_root_here}

@@ -1,6 +1,5 @@
 -- The outcome follows from decoding's own. Assumes nothing.
-use borrow.Author.Rules.{rules}
-use Rattle.model.specs.Board.{Sheet, board_of, sheet_of}
+use Rattle.model.specs.Board.{board_of, sheet_of}
 use Rattle.verdict.proofs.VerdictAnswers.{none_compares, key_compares, judgeable}
 use Rattle.verdict.proofs.compare.Goals as goal
 

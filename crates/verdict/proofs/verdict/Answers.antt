@@ -1,9 +1,8 @@
 -- A refusal of the verdict's own tests, or the comparison; what a marker may rely on follows from either. Assumes nothing.
 use Prim.Native.Nat.{ℕ}
-use borrow.Author.Rules.{rules}
 use mathlib.Core.Path.{◌≡◌, sym, ap, ◌∙◌}
 use lib.ListN.{length, take, replicate}
-use Rattle.model.specs.Board.{Sheet, board_of, sheet_of, edge_limit}
+use Rattle.model.specs.Board.{board_of, sheet_of, edge_limit}
 use Rattle.model.specs.Refusals.{verdict_refusal}
 use Rattle.model.proofs.ListLaws.{front_long}
 use Rattle.board.specs.Checks.{test_of}

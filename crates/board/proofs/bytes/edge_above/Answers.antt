@@ -1,7 +1,6 @@
 -- `board::bytes::edge_above` meets its contract: the place that the pass finds is an edge's number. Assumes nothing.
 use mathlib.Core.Path.{sym, ap, ◌∙◌}
 use native.Mathlib.Omega.{arith}
-use borrow.Author.Rules.{rules}
 use Rattle.board.specs.Checks.{place_found}
 use Rattle.board.proofs.Searching.{found_below}
 use Rattle.board.proofs.bytes.edge_above.Goals as goal

@@ -1,5 +1,4 @@
 -- `board::bytes::first_above` meets its contract: where the largest byte is within the limit, none is above it. Assumes nothing.
-use borrow.Author.Rules.{rules}
 use Rattle.board.proofs.Bounding.{none_above}
 use Rattle.board.proofs.bytes.first_above.Goals as goal
 

@@ -1,9 +1,6 @@
-use Prim.Native.Nat.{◌≤◌, ◌-◌}
 use borrow.Author.Rules.{rules}
 use borrow.Author.Tests.{lt-ltb, le-ltb}
-use lib.ListN.{length, get_or}
-use lib.Dec.{ltb}
-use Rattle.board.proofs.Searching.{Passed, passed_none, passed_more, ends_at, ends_nowhere}
+use Rattle.board.proofs.Searching.{passed_none, passed_more, ends_at, ends_nowhere}
 use Rattle.board.proofs.bytes.place_above.Goals as goal
 
 pub loop-i-init : goal.loop-i-init

@@ -1,10 +1,8 @@
 -- `board::bytes::place_above` meets its contract. The loop's invariant: no byte before `i` is above the limit. Assumes nothing.
 use Prim.Native.Nat.{◌≤◌, ◌-◌}
-use borrow.Author.Rules.{rules}
-use borrow.Author.Tests.{lt-ltb, le-ltb}
 use lib.ListN.{length, get_or}
 use lib.Dec.{ltb}
-use Rattle.board.proofs.Searching.{Passed, passed_none, passed_more, ends_at, ends_nowhere}
+use Rattle.board.proofs.Searching.{Passed}
 use Rattle.board.proofs.bytes.place_above.Given as goal
 
 abbrev pub invariant-loop-i : goal.invariant-loop-i

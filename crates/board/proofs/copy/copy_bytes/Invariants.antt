@@ -1,10 +1,7 @@
 -- `board::copy::copy_bytes` meets its contract. The loop's invariant: so many entries are copied. Assumes nothing.
 use Prim.Native.Nat.{◌≤◌, ◌-◌}
-use mathlib.Core.Path.{◌≡◌, refl, ap, ◌∙◌}
-use native.Mathlib.Omega.{arith}
-use borrow.Author.Rules.{rules}
-use lib.ListN.{get_or, set}
-use Rattle.board.proofs.CopyLaws.{copied, copied_more, length_copied}
+use mathlib.Core.Path.{◌≡◌}
+use Rattle.board.proofs.CopyLaws.{copied}
 use Rattle.board.proofs.copy.copy_bytes.Given as goal
 
 abbrev pub invariant-loop-i : goal.invariant-loop-i

@@ -1,13 +1,9 @@
-use Prim.Native.Nat.{ℕ, ◌-◌, ◌≤◌}
 use mathlib.Core.Path.{◌≡◌, ap, ◌∙◌}
-use mathlib.Core.Logic.{⊎_elim}
-use mathlib.Core.List.{List}
 use native.Mathlib.Omega.{arith}
 use borrow.Author.Rules.{rules}
 use borrow.Author.Tests.{eq-eqb, ne_eqb}
-use lib.ListN.{length, get_or}
-use lib.Dec.{eqb}
-use Rattle.model.specs.Sums.{Set, count_up_to}
+use lib.ListN.{length}
+use Rattle.model.specs.Sums.{count_up_to}
 use Rattle.model.proofs.SumLaws.{count_bound}
 use Rattle.model.proofs.CountLaws.{count_in, count_out}
 use Rattle.board.proofs.counting.count.Invariants.{valued}

@@ -1,16 +1,10 @@
 -- `board::counting::count` meets its contract. The loop's invariant: `total` counts the places before i with the value. Assumes nothing.
 use Prim.Native.Nat.{ℕ, ◌-◌, ◌≤◌}
-use mathlib.Core.Path.{◌≡◌, ap, ◌∙◌}
-use mathlib.Core.Logic.{⊎_elim}
+use mathlib.Core.Path.{◌≡◌}
 use mathlib.Core.List.{List}
-use native.Mathlib.Omega.{arith}
-use borrow.Author.Rules.{rules}
-use borrow.Author.Tests.{eq-eqb, ne_eqb}
 use lib.ListN.{length, get_or}
 use lib.Dec.{eqb}
 use Rattle.model.specs.Sums.{Set, count_up_to}
-use Rattle.model.proofs.SumLaws.{count_bound}
-use Rattle.model.proofs.CountLaws.{count_in, count_out}
 use Rattle.board.proofs.counting.count.Given as goal
 
 -- the places with the value

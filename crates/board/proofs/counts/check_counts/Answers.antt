@@ -1,5 +1,4 @@
 -- `board::counts::check_counts` meets its contract: each return has the facts of the tests that led to it. Assumes nothing.
-use mathlib.Core.Logic.{⊎_elim}
 use borrow.Author.Tests.{ltb-true, ltb-false, le-leb, lt-leb, eq-eqb, ne_eqb, not-true, not-false}
 use Rattle.board.proofs.counts.check_counts.Goals.{then-count-ne0-via-else-count-ne0+then-count-gt-ENDS, then-count-ne0-via-then-count-ne0, then-vertices-lt1-via-else-vertices-lt1+then-vertices-gt-VERTICES, then-vertices-lt1-via-then-vertices-lt1}
 use Rattle.board.proofs.counts.check_counts.Goals as goal

@@ -1,10 +1,6 @@
-use Prim.Native.Nat.{◌-◌, ◌≤◌}
-use mathlib.Core.Logic.{⊎_elim}
 use borrow.Author.Rules.{rules}
 use borrow.Author.Tests.{le-leb, lt-leb}
-use Rattle.model.specs.Board.{plain}
-use Rattle.model.specs.Refusals.{outside}
-use Rattle.board.proofs.Searching.{Passed, passed_none, passed_more, ends_at, ends_nowhere}
+use Rattle.board.proofs.Searching.{passed_none, passed_more, ends_at, ends_nowhere}
 use Rattle.board.proofs.ends.edge_outside.Goals.{then-first-vertices-via-else-first-vertices+then-second-vertices, then-first-vertices-via-then-first-vertices}
 use Rattle.board.proofs.ends.edge_outside.Goals as goal
 

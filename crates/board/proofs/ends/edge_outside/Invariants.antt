@@ -1,11 +1,8 @@
 -- `board::ends::edge_outside` meets its contract. The loop's invariant: no edge before `e` breaks the rule. Assumes nothing.
 use Prim.Native.Nat.{◌-◌, ◌≤◌}
-use mathlib.Core.Logic.{⊎_elim}
-use borrow.Author.Rules.{rules}
-use borrow.Author.Tests.{le-leb, lt-leb}
 use Rattle.model.specs.Board.{plain}
 use Rattle.model.specs.Refusals.{outside}
-use Rattle.board.proofs.Searching.{Passed, passed_none, passed_more, ends_at, ends_nowhere}
+use Rattle.board.proofs.Searching.{Passed}
 use Rattle.board.proofs.ends.edge_outside.Given as goal
 
 abbrev pub invariant-loop-e : goal.invariant-loop-e

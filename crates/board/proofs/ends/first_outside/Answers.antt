@@ -1,5 +1,4 @@
 -- `board::ends::first_outside` meets its contract: where the largest end is below the vertex count, all are. Assumes nothing.
-use borrow.Author.Rules.{rules}
 use Rattle.board.proofs.Bounding.{none_outside}
 use Rattle.board.proofs.ends.first_outside.Goals as goal
 

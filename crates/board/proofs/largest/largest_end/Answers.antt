@@ -1,9 +1,5 @@
-use Prim.Native.Nat.{◌≤◌, ◌-◌}
-use mathlib.Core.Logic.{⊎_elim}
 use native.Mathlib.Omega.{arith}
 use borrow.Author.Rules.{rules}
-use lib.ListN.{length}
-use Rattle.board.specs.Bounds.{Bounded, entry}
 use Rattle.board.proofs.Bounding.{bounded_none, bounded_more, bounded_whole}
 use Rattle.board.proofs.largest.largest_end.Goals.{else-end-top, then-end-top}
 use Rattle.board.proofs.largest.largest_end.Goals as goal

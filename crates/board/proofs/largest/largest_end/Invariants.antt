@@ -1,11 +1,7 @@
 -- `board::largest::largest_end` meets its contract. The loop's invariant: no end before `i` is above `top`. Assumes nothing.
 use Prim.Native.Nat.{◌≤◌, ◌-◌}
-use mathlib.Core.Logic.{⊎_elim}
-use native.Mathlib.Omega.{arith}
-use borrow.Author.Rules.{rules}
 use lib.ListN.{length}
 use Rattle.board.specs.Bounds.{Bounded, entry}
-use Rattle.board.proofs.Bounding.{bounded_none, bounded_more, bounded_whole}
 use Rattle.board.proofs.largest.largest_end.Given as goal
 
 abbrev pub invariant-loop-i : goal.invariant-loop-i

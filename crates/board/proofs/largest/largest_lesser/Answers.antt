@@ -1,9 +1,7 @@
-use Prim.Native.Nat.{◌≤◌, ◌-◌}
-use mathlib.Core.Logic.{⊎_elim}
+use Prim.Native.Nat.{◌≤◌}
 use native.Mathlib.Omega.{arith}
 use borrow.Author.Rules.{rules}
-use lib.ListN.{length}
-use Rattle.board.specs.Bounds.{Bounded, lesser}
+use Rattle.board.specs.Bounds.{lesser}
 use Rattle.board.proofs.Bounding.{bounded_none, bounded_more, bounded_whole}
 use Rattle.board.proofs.largest.largest_lesser.Goals.{else-byte-other, else-low-top, then-byte-other, then-low-top}
 use Rattle.board.proofs.largest.largest_lesser.Goals as goal

@@ -1,12 +1,8 @@
 -- `board::largest::largest_lesser` meets its contract. The loop's invariant: of no place before `i` the lesser byte is above
 -- `top`. Assumes nothing.
 use Prim.Native.Nat.{◌≤◌, ◌-◌}
-use mathlib.Core.Logic.{⊎_elim}
-use native.Mathlib.Omega.{arith}
-use borrow.Author.Rules.{rules}
 use lib.ListN.{length}
 use Rattle.board.specs.Bounds.{Bounded, lesser}
-use Rattle.board.proofs.Bounding.{bounded_none, bounded_more, bounded_whole}
 use Rattle.board.proofs.largest.largest_lesser.Given as goal
 
 abbrev pub invariant-loop-i : goal.invariant-loop-i

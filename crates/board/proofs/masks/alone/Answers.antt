@@ -1,6 +1,5 @@
 -- `board::masks::alone` meets its contract. Assumes nothing.
 use native.Mathlib.Omega.{arith}
-use borrow.Author.Rules.{rules}
 use lib.Pow.{pow-lt}
 use Rattle.board.proofs.masks.alone.Goals as goal
 

@@ -1,10 +1,8 @@
-use Prim.Native.Nat.{◌-◌, ◌≤◌}
 use mathlib.Core.Path.{ap, ◌∙◌}
 use native.Mathlib.Omega.{arith}
 use borrow.Author.Rules.{rules}
-use lib.ListN.{length}
 use Rattle.model.specs.Sums.{bit}
-use Rattle.board.proofs.MaskBytes.{cast_bit, SpreadTo, spread_none, spread_more, spread_all}
+use Rattle.board.proofs.MaskBytes.{cast_bit, spread_none, spread_more, spread_all}
 use Rattle.board.proofs.masks.spread.Goals as goal
 
 pub loop-i-init : goal.loop-i-init

@@ -1,11 +1,7 @@
 -- `board::masks::spread` meets its contract. The loop's invariant: the first i bytes are those of the mask's items. Assumes nothing.
 use Prim.Native.Nat.{◌-◌, ◌≤◌}
-use mathlib.Core.Path.{ap, ◌∙◌}
-use native.Mathlib.Omega.{arith}
-use borrow.Author.Rules.{rules}
 use lib.ListN.{length}
-use Rattle.model.specs.Sums.{bit}
-use Rattle.board.proofs.MaskBytes.{cast_bit, SpreadTo, spread_none, spread_more, spread_all}
+use Rattle.board.proofs.MaskBytes.{SpreadTo}
 use Rattle.board.proofs.masks.spread.Given as goal
 
 abbrev pub invariant-loop-i : goal.invariant-loop-i

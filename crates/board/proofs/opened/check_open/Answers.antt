@@ -1,7 +1,6 @@
 -- `board::opened::check_open` meets its contract: the tests 16 and 17, one after the other. Assumes nothing.
 use mathlib.Core.Path.{refl, sym, ap, ◌∙◌}
 use mathlib.Core.List.{[], ◌∷◌}
-use borrow.Author.Rules.{rules}
 use Rattle.model.specs.Refusals.{open_rule, lit_open_rule}
 use Rattle.board.specs.Checks.{vertex_found}
 use Rattle.board.proofs.Failures.{refuses_first, passes_first}

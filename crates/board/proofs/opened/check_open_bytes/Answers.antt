@@ -1,6 +1,5 @@
 -- `board::opened::check_open_bytes` meets its contract: it is the test 16. Assumes nothing.
 use mathlib.Core.Path.{refl, ap}
-use borrow.Author.Rules.{rules}
 use Rattle.board.specs.Checks.{vertex_found}
 use Rattle.board.proofs.Searching.{answered}
 use Rattle.board.proofs.opened.check_open_bytes.Goals as goal

@@ -1,5 +1,4 @@
 -- `board::opened::first_lit_open` meets its contract: where the largest of the lesser bytes is 0, no vertex is open and lit. Assumes nothing.
-use borrow.Author.Rules.{rules}
 use Rattle.board.proofs.Bounding.{none_lit_open}
 use Rattle.board.proofs.opened.first_lit_open.Goals as goal
 

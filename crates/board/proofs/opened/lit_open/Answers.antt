@@ -1,8 +1,5 @@
-use Prim.Native.Nat.{◌≤◌, ◌-◌}
 use borrow.Author.Rules.{rules}
-use lib.ListN.{length}
-use Rattle.model.specs.Refusals.{lit_open}
-use Rattle.board.proofs.Searching.{Passed, passed_none, passed_more, ends_at, ends_nowhere}
+use Rattle.board.proofs.Searching.{passed_none, passed_more, ends_at, ends_nowhere}
 use Rattle.board.proofs.opened.lit_open.Goals as goal
 
 pub loop-v-init : goal.loop-v-init

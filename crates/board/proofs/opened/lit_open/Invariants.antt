@@ -1,9 +1,8 @@
 -- `board::opened::lit_open` meets its contract. The loop's invariant: no vertex before `v` is open and lit. Assumes nothing.
 use Prim.Native.Nat.{◌≤◌, ◌-◌}
-use borrow.Author.Rules.{rules}
 use lib.ListN.{length}
 use Rattle.model.specs.Refusals.{lit_open}
-use Rattle.board.proofs.Searching.{Passed, passed_none, passed_more, ends_at, ends_nowhere}
+use Rattle.board.proofs.Searching.{Passed}
 use Rattle.board.proofs.opened.lit_open.Given as goal
 
 abbrev pub invariant-loop-v : goal.invariant-loop-v

@@ -1,6 +1,5 @@
 -- `board::tests::check_board` meets its contract: the tests 1 to 3 decide, or else those of the edges. Assumes nothing.
 use mathlib.Core.Path.{sym, ◌∙◌}
-use borrow.Author.Rules.{rules}
 use Rattle.model.specs.Board.{board_of}
 use Rattle.board.proofs.Failures.{refuses, passes_on, passed}
 use Rattle.board.proofs.Validity.{board_tests, counts_allow}

@@ -1,6 +1,5 @@
 -- `board::tests::check_bytes` meets its contract: the tests 7 and 8, one after the other. Assumes nothing.
 use mathlib.Core.Path.{refl, ap}
-use borrow.Author.Rules.{rules}
 use Rattle.board.specs.Checks.{edge_found, vertex_found}
 use Rattle.board.proofs.Searching.{answered}
 use Rattle.board.proofs.tests.check_bytes.Goals as goal

@@ -1,5 +1,4 @@
 -- `board::tests::check_decode` meets its contract: it is the sheet's check. Assumes nothing.
-use borrow.Author.Rules.{rules}
 use Rattle.model.specs.Refusals.{decode_refusal}
 use Rattle.board.proofs.tests.check_decode.Goals as goal
 

@@ -1,5 +1,4 @@
 -- `board::tests::check_distance` meets its contract: it is the whole board's check. Assumes nothing.
-use borrow.Author.Rules.{rules}
 use Rattle.model.specs.Refusals.{distance_refusal}
 use Rattle.board.proofs.tests.check_distance.Goals as goal
 

@@ -1,6 +1,5 @@
 -- `board::tests::check_edges` meets its contract: the test 4, then the test 6. Assumes nothing.
 use mathlib.Core.Path.{refl, ap}
-use borrow.Author.Rules.{rules}
 use Rattle.board.specs.Checks.{edge_found}
 use Rattle.board.proofs.Searching.{answered}
 use Rattle.board.proofs.tests.check_edges.Goals as goal

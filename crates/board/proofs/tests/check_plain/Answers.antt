@@ -1,6 +1,5 @@
 -- `board::tests::check_plain` meets its contract: the tests of the board decide, or else those of the bytes. Assumes nothing.
 use mathlib.Core.Path.{sym, ◌∙◌}
-use borrow.Author.Rules.{rules}
 use Rattle.model.specs.Board.{board_of, sheet_of}
 use Rattle.board.proofs.Failures.{refuses, passes_on, passed}
 use Rattle.board.proofs.Validity.{plain_tests, board_allows}

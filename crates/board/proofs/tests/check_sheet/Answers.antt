@@ -1,6 +1,5 @@
 -- `board::tests::check_sheet` meets its contract: the tests up to 8 decide, or else those of the open bytes. Assumes nothing.
 use mathlib.Core.Path.{sym, ◌∙◌}
-use borrow.Author.Rules.{rules}
 use Rattle.model.specs.Board.{board_of, sheet_of}
 use Rattle.board.proofs.Failures.{refuses, passes_on, passed}
 use Rattle.board.proofs.Validity.{sheet_tests, plain_passes, plain_allows}

@@ -1,7 +1,6 @@
 -- `board::tests::check_verdict` meets its contract: the tests up to 8 decide, or else test 9, or else those of the open bytes. Assumes
 -- nothing.
 use mathlib.Core.Path.{refl, sym, ap, ◌∙◌}
-use borrow.Author.Rules.{rules}
 use Rattle.model.specs.Board.{board_of, sheet_of}
 use Rattle.board.specs.Checks.{edge_found}
 use Rattle.board.proofs.Searching.{answered}

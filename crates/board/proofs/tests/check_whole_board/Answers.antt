@@ -1,6 +1,5 @@
 -- `board::tests::check_whole_board` meets its contract: the tests of the board decide, or else test 16. Assumes nothing.
 use mathlib.Core.Path.{sym, ◌∙◌}
-use borrow.Author.Rules.{rules}
 use Rattle.model.specs.Board.{board_of}
 use Rattle.board.proofs.Failures.{refuses, passes_on, passed}
 use Rattle.board.proofs.Validity.{whole_tests, open_allowed}

@@ -1,8 +1,5 @@
-use Prim.Native.Nat.{◌-◌}
 use mathlib.Core.Path.{sym}
-use mathlib.Core.Logic.{⊎_elim}
-use borrow.Author.Rules.{rules}
-use Rattle.decoder.proofs.Choosing.{BestYet, best_begins, block_here, best_taken, best_kept, best_none, best_searchable, best_chosen}
+use Rattle.decoder.proofs.Choosing.{best_begins, block_here, best_taken, best_kept, best_none, best_searchable, best_chosen}
 use Rattle.decoder.proofs.choice.choose.Goals.{else-smallest-least, then-smallest-least}
 use Rattle.decoder.proofs.choice.choose.Goals as goal
 

@@ -1,9 +1,6 @@
 -- `choose` meets its contract: each turn sets the smallest figure of one block against the best so far. Assumes nothing.
 use Prim.Native.Nat.{◌-◌}
-use mathlib.Core.Path.{sym}
-use mathlib.Core.Logic.{⊎_elim}
-use borrow.Author.Rules.{rules}
-use Rattle.decoder.proofs.Choosing.{BestYet, best_begins, block_here, best_taken, best_kept, best_none, best_searchable, best_chosen}
+use Rattle.decoder.proofs.Choosing.{BestYet}
 use Rattle.decoder.proofs.choice.choose.Given as goal
 
 abbrev pub invariant-loop-from : goal.invariant-loop-from

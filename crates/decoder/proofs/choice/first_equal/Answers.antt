@@ -1,7 +1,4 @@
-use Prim.Native.Nat.{◌-◌}
-use borrow.Author.Rules.{rules}
-use Rattle.model.specs.Board.{vertex_limit}
-use Rattle.decoder.proofs.Choosing.{Searched, search_begins, search_goes_on, search_ends}
+use Rattle.decoder.proofs.Choosing.{search_begins, search_goes_on, search_ends}
 use Rattle.decoder.proofs.choice.first_equal.Goals as goal
 
 pub loop-a-init : goal.loop-a-init

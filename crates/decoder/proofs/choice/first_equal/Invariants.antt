@@ -1,8 +1,7 @@
 -- `first_equal` meets its contract: no number before the one that is looked at has the figure. Assumes nothing.
 use Prim.Native.Nat.{◌-◌}
-use borrow.Author.Rules.{rules}
 use Rattle.model.specs.Board.{vertex_limit}
-use Rattle.decoder.proofs.Choosing.{Searched, search_begins, search_goes_on, search_ends}
+use Rattle.decoder.proofs.Choosing.{Searched}
 use Rattle.decoder.proofs.choice.first_equal.Given as goal
 
 abbrev pub invariant-loop-a : goal.invariant-loop-a

@@ -1,8 +1,4 @@
-use Prim.Native.Nat.{◌-◌}
-use mathlib.Core.Logic.{⊎_elim}
-use borrow.Author.Rules.{rules}
-use Rattle.decoder.specs.Choices.{block_length}
-use Rattle.decoder.proofs.Choosing.{SmallestYet, smallest_begins, smallest_taken, smallest_kept, smallest_ends}
+use Rattle.decoder.proofs.Choosing.{smallest_begins, smallest_taken, smallest_kept, smallest_ends}
 use Rattle.decoder.proofs.choice.smallest_in.Goals.{else-f-least, then-f-least}
 use Rattle.decoder.proofs.choice.smallest_in.Goals as goal
 

@@ -1,9 +1,7 @@
 -- `smallest_in` meets its contract: each turn takes one figure more into account. Assumes nothing.
 use Prim.Native.Nat.{◌-◌}
-use mathlib.Core.Logic.{⊎_elim}
-use borrow.Author.Rules.{rules}
 use Rattle.decoder.specs.Choices.{block_length}
-use Rattle.decoder.proofs.Choosing.{SmallestYet, smallest_begins, smallest_taken, smallest_kept, smallest_ends}
+use Rattle.decoder.proofs.Choosing.{SmallestYet}
 use Rattle.decoder.proofs.choice.smallest_in.Given as goal
 
 abbrev pub invariant-loop-i : goal.invariant-loop-i

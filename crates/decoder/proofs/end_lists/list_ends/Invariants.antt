@@ -1,14 +1,7 @@
 -- `list_ends` meets its contract: each turn lists one end. Assumes nothing.
-use Prim.Native.Nat.{◌≤◌, ◌<◌, ◌-◌, ◌*◌}
-use mathlib.Core.Path.{◌≡◌, subst}
-use native.Mathlib.Numerals.{add-one}
-use native.Mathlib.Omega.{arith}
-use lib.ListN.{length, get_or}
-use borrow.Author.Rules.{rules}
-use Rattle.model.specs.Board.{vertex_limit, edge_limit}
-use Rattle.model.proofs.EndLaws.{end_in_range}
+use Prim.Native.Nat.{◌≤◌, ◌-◌}
+use lib.ListN.{length}
 use Rattle.decoder.specs.EndLists.{ListedUpTo}
-use Rattle.decoder.proofs.EndListLaws.{list_none, list_one}
 use Rattle.decoder.proofs.end_lists.list_ends.Given as goal
 
 abbrev pub invariant-loop-i : goal.invariant-loop-i

@@ -1,15 +1,10 @@
-use Prim.Native.Nat.{◌≤◌, ◌-◌}
-use mathlib.Core.Path.{◌≡◌, refl, sym, ◌∙◌}
-use mathlib.Core.Logic.{⊎_elim}
+use mathlib.Core.Path.{◌≡◌, sym, ◌∙◌}
 use native.Mathlib.Numerals.{add-one}
 use native.Mathlib.Omega.{arith}
 use lib.ListN.{length}
 use borrow.Author.Rules.{rules}
 use borrow.Author.Tests.{not-true, not-false}
-use Rattle.model.specs.Board.{vertex_limit}
-use Rattle.model.specs.Growth.{full}
-use Rattle.decoder.specs.Exposures.{Exposures}
-use Rattle.decoder.proofs.EndCounts.{ends_none, room_first, room_second, ends_more, ends_passed}
+use Rattle.decoder.proofs.EndCounts.{room_first, room_second, ends_more, ends_passed}
 use Rattle.decoder.proofs.exposure.count_ends.Goals.{else-not-is_full, then-not-is_full}
 use Rattle.decoder.proofs.exposure.count_ends.Goals as goal
 

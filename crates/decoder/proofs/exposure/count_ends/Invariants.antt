@@ -1,16 +1,8 @@
 -- `count_ends` meets its contract: each turn counts the ends of one edge that isn't full. Assumes nothing.
 use Prim.Native.Nat.{◌≤◌, ◌-◌}
-use mathlib.Core.Path.{◌≡◌, refl, sym, ◌∙◌}
-use mathlib.Core.Logic.{⊎_elim}
-use native.Mathlib.Numerals.{add-one}
-use native.Mathlib.Omega.{arith}
 use lib.ListN.{length}
-use borrow.Author.Rules.{rules}
-use borrow.Author.Tests.{not-true, not-false}
-use Rattle.model.specs.Board.{vertex_limit}
 use Rattle.model.specs.Growth.{full}
 use Rattle.decoder.specs.Exposures.{Exposures}
-use Rattle.decoder.proofs.EndCounts.{ends_none, room_first, room_second, ends_more, ends_passed}
 use Rattle.decoder.proofs.exposure.count_ends.Given as goal
 
 abbrev pub invariant-loop-e : goal.invariant-loop-e

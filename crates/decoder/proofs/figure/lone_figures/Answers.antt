@@ -1,4 +1,3 @@
-use Prim.Native.Nat.{◌≤◌, ◌-◌}
 use mathlib.Core.Path.{◌≡◌, refl, ap, ◌∙◌}
 use native.Mathlib.Numerals.{add-one}
 use native.Mathlib.Omega.{arith}
@@ -7,7 +6,6 @@ use borrow.Author.Rules.{rules}
 use Rattle.model.specs.Sums.{bit, ones}
 use Rattle.model.specs.Board.{vertex_limit}
 use Rattle.decoder.specs.Figures.{figure_of}
-use Rattle.decoder.specs.LoneFigures.{LoneFigures}
 use Rattle.decoder.proofs.LoneLaws.{some_count, lone_none, lone_next}
 use Rattle.decoder.proofs.figure.lone_figures.Goals as goal
 

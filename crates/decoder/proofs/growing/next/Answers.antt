@@ -2,7 +2,6 @@
 use mathlib.Core.Path.{◌≡◌, sym, ap, ◌∙◌}
 use mathlib.Core.Option.{some}
 use native.Mathlib.Numerals.{add-one}
-use borrow.Author.Rules.{rules}
 use Rattle.union_find.specs.Trees.{at}
 use Rattle.decoder.specs.Figures.{odd_figure}
 use Rattle.decoder.specs.Choices.{chosen_of, least_up_to}

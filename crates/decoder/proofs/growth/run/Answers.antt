@@ -1,11 +1,11 @@
-use Prim.Native.Nat.{ℕ, ◌*◌, ◌-◌, ◌<◌}
-use mathlib.Core.Path.{◌≡◌, refl, sym}
+use Prim.Native.Nat.{ℕ, ◌*◌, ◌<◌}
+use mathlib.Core.Path.{refl, sym}
 use native.Mathlib.Numerals.{add-one}
 use native.Mathlib.Omega.{arith}
 use lib.ListN.{length, length-replicate}
 use Rattle.model.specs.Board.{vertex_limit, edge_limit}
 use Rattle.decoder.proofs.EndCounts.{ends_none}
-use Rattle.decoder.proofs.RunLaws.{Running, none_listed, listable, countable, gatherable, run_begins, choosable, run_done, growths_left, growable, run_more}
+use Rattle.decoder.proofs.RunLaws.{none_listed, listable, countable, gatherable, run_begins, choosable, run_done, growths_left, growable, run_more}
 use Rattle.decoder.proofs.growth.run.Goals as goal
 
 pub lose-requires : goal.lose-requires

@@ -1,5 +1,4 @@
 -- `key` meets its contract: nothing to do, number 10, or run, odd ends and peel. Assumes nothing.
-use borrow.Author.Rules.{rules}
 use mathlib.Core.Path.{sym}
 use Rattle.decoder.proofs.Keying.{unlit_keyed, searchable, shows_odd, runnable, sealed_peelable, sealed_keyed, nameable, markable, front_long, peelable, keyed}
 use Rattle.decoder.proofs.key.key.Goals as goal

@@ -1,14 +1,8 @@
 -- `labels_of` meets its contract: each turn writes one label. Assumes nothing.
 use Prim.Native.Nat.{◌≤◌, ◌-◌}
-use mathlib.Core.Path.{◌≡◌, refl}
-use native.Mathlib.Numerals.{add-one}
-use native.Mathlib.Omega.{arith}
-use borrow.Author.Rules.{rules}
-use Rattle.model.specs.Board.{vertex_limit}
 use Rattle.union_find.specs.Packed.{parents_of}
 use Rattle.decoder.specs.Figures.{names_by}
 use Rattle.decoder.specs.TreeLabels.{Labelled}
-use Rattle.decoder.proofs.NameLaws.{label_none, label_next}
 use Rattle.decoder.proofs.labels.labels_of.Given as goal
 
 abbrev pub invariant-loop-v : goal.invariant-loop-v

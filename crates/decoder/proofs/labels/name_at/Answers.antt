@@ -1,5 +1,4 @@
 -- `name_at` meets its contract. Assumes nothing.
-use borrow.Author.Rules.{rules}
 use borrow.Author.Tests.{lt-ltb, le-ltb}
 use Rattle.decoder.proofs.labels.name_at.Goals as goal
 

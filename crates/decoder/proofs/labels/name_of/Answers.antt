@@ -1,7 +1,6 @@
 -- `name_of` meets its contract. Assumes nothing.
 use mathlib.Core.Path.{sym, ap, ◌∙◌}
 use native.Mathlib.Omega.{arith}
-use borrow.Author.Rules.{rules}
 use Rattle.union_find.specs.Trees.{at}
 use Rattle.union_find.proofs.Roots.{root_inside}
 use Rattle.decoder.specs.Figures.{names_by}

@@ -1,7 +1,6 @@
 -- `carry` meets its contract. Assumes nothing.
 use mathlib.Core.Path.{ap}
 use lib.ListN.{set}
-use borrow.Author.Rules.{rules}
 use Rattle.decoder.specs.Figures.{no_figure}
 use Rattle.decoder.proofs.merging.carry.Goals as goal
 

@@ -1,5 +1,4 @@
 -- `merge` meets its contract. Assumes nothing.
-use borrow.Author.Rules.{rules}
 use Rattle.decoder.proofs.merging.merge.Goals as goal
 
 pub merge_roots-requires : goal.merge_roots-requires

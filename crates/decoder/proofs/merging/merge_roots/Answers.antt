@@ -1,7 +1,6 @@
 -- `merge_roots` meets its contract. Assumes nothing.
 use mathlib.Core.Path.{refl}
 use native.Mathlib.Omega.{arith}
-use borrow.Author.Rules.{rules}
 use borrow.Author.Tests.{lt-ltb, le-ltb}
 use Rattle.decoder.proofs.merging.merge_roots.Goals as goal
 

@@ -1,13 +1,12 @@
-use Prim.Native.Nat.{◌≤◌, ◌<◌, ◌-◌}
+use Prim.Native.Nat.{◌<◌}
 use mathlib.Core.Path.{◌≡◌, refl}
-use mathlib.Core.Logic.{⊎_elim}
 use native.Mathlib.Numerals.{add-one}
 use native.Mathlib.Omega.{arith}
 use borrow.Author.Rules.{rules}
 use lib.ListN.{length}
 use Rattle.model.specs.Board.{vertex_limit}
 use Rattle.model.specs.Components.{label}
-use Rattle.decoder.proofs.EndMarking.{MarkedUpTo, marked_none, marked_outlet, marked_other, marked_all}
+use Rattle.decoder.proofs.EndMarking.{marked_none, marked_outlet, marked_other, marked_all}
 use Rattle.decoder.proofs.odd_ends.odd_ends.Goals.{else-opened-v, then-opened-v}
 use Rattle.decoder.proofs.odd_ends.odd_ends.Goals as goal
 

@@ -1,14 +1,7 @@
 -- `odd_ends` meets its contract: each turn marks one vertex. Assumes nothing.
-use Prim.Native.Nat.{◌≤◌, ◌<◌, ◌-◌}
-use mathlib.Core.Path.{◌≡◌, refl}
-use mathlib.Core.Logic.{⊎_elim}
-use native.Mathlib.Numerals.{add-one}
-use native.Mathlib.Omega.{arith}
-use borrow.Author.Rules.{rules}
+use Prim.Native.Nat.{◌≤◌, ◌-◌}
 use lib.ListN.{length}
-use Rattle.model.specs.Board.{vertex_limit}
-use Rattle.model.specs.Components.{label}
-use Rattle.decoder.proofs.EndMarking.{MarkedUpTo, marked_none, marked_outlet, marked_other, marked_all}
+use Rattle.decoder.proofs.EndMarking.{MarkedUpTo}
 use Rattle.decoder.proofs.odd_ends.odd_ends.Given as goal
 
 abbrev pub invariant-loop-v : goal.invariant-loop-v

@@ -1,12 +1,11 @@
-use Prim.Native.Nat.{◌≤◌, ◌<◌, ◌-◌}
+use Prim.Native.Nat.{◌<◌}
 use mathlib.Core.Path.{◌≡◌}
-use mathlib.Core.Logic.{⊎_elim}
 use native.Mathlib.Numerals.{add-one}
 use native.Mathlib.Omega.{arith}
 use lib.ListN.{get_or}
 use borrow.Author.Tests.{lt-ltb, le-ltb}
 use Rattle.decoder.specs.Figures.{even_mark}
-use Rattle.decoder.specs.Raising.{Raisable, RaisedBy}
+use Rattle.decoder.specs.Raising.{Raisable}
 use Rattle.decoder.proofs.RingRaising.{raise_begins, raise_passes, prunable, ring_raisable, raise_adds}
 use Rattle.decoder.proofs.raising.raise.Goals.{else-figure-a-lt-EVEN, then-figure-a-lt-EVEN}
 use Rattle.decoder.proofs.raising.raise.Goals as goal

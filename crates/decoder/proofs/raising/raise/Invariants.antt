@@ -1,14 +1,6 @@
 -- `raise` meets its contract: each turn looks at one name, and grows its ring where that is odd. Assumes nothing.
-use Prim.Native.Nat.{◌≤◌, ◌<◌, ◌-◌}
-use mathlib.Core.Path.{◌≡◌}
-use mathlib.Core.Logic.{⊎_elim}
-use native.Mathlib.Numerals.{add-one}
-use native.Mathlib.Omega.{arith}
-use lib.ListN.{get_or}
-use borrow.Author.Tests.{lt-ltb, le-ltb}
-use Rattle.decoder.specs.Figures.{even_mark}
+use Prim.Native.Nat.{◌≤◌, ◌-◌}
 use Rattle.decoder.specs.Raising.{Raisable, RaisedBy}
-use Rattle.decoder.proofs.RingRaising.{raise_begins, raise_passes, prunable, ring_raisable, raise_adds}
 use Rattle.decoder.proofs.raising.raise.Given as goal
 
 abbrev pub invariant-loop-a : goal.invariant-loop-a

@@ -1,11 +1,7 @@
 use Prim.Native.Nat.{◌<◌}
 use native.Mathlib.Omega.{arith}
-use lib.ListN.{length}
 use Rattle.model.specs.Board.{vertex_limit}
-use Rattle.union_find.specs.Trees.{at}
-use Rattle.decoder.specs.Rings.{way}
-use Rattle.decoder.specs.Raising.{RingRaisable}
-use Rattle.decoder.proofs.RingRaising.{Going, ring_begins, ring_ends, ring_inside, raisable_next, ring_goes_on, ring_fewer, ring_long}
+use Rattle.decoder.proofs.RingRaising.{ring_begins, ring_ends, ring_inside, raisable_next, ring_goes_on, ring_fewer, ring_long}
 use Rattle.decoder.proofs.raising.raise_ring.Goals as goal
 
 pub loop-v-init : goal.loop-v-init

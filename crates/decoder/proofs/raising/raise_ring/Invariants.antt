@@ -1,12 +1,10 @@
 -- `raise_ring` meets its contract: each turn grows one vertex of the ring. Assumes nothing.
-use Prim.Native.Nat.{◌<◌}
-use native.Mathlib.Omega.{arith}
 use lib.ListN.{length}
 use Rattle.model.specs.Board.{vertex_limit}
 use Rattle.union_find.specs.Trees.{at}
 use Rattle.decoder.specs.Rings.{way}
 use Rattle.decoder.specs.Raising.{RingRaisable}
-use Rattle.decoder.proofs.RingRaising.{Going, ring_begins, ring_ends, ring_inside, raisable_next, ring_goes_on, ring_fewer, ring_long}
+use Rattle.decoder.proofs.RingRaising.{Going}
 use Rattle.decoder.proofs.raising.raise_ring.Given as goal
 
 abbrev pub invariant-loop-v : goal.invariant-loop-v

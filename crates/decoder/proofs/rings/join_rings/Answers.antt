@@ -1,6 +1,5 @@
 -- `join_rings` meets its contract. Assumes nothing.
 use mathlib.Core.Path.{refl}
-use borrow.Author.Rules.{rules}
 use Rattle.decoder.proofs.rings.join_rings.Goals as goal
 
 pub returns : goal.returns

@@ -1,10 +1,7 @@
-use Prim.Native.Nat.{◌≤◌, ◌-◌}
-use mathlib.Core.Path.{◌≡◌, refl}
+use mathlib.Core.Path.{◌≡◌}
 use native.Mathlib.Numerals.{add-one}
 use native.Mathlib.Omega.{arith}
 use borrow.Author.Rules.{rules}
-use Rattle.model.specs.Board.{vertex_limit}
-use Rattle.decoder.specs.Rings.{LoneRings}
 use Rattle.decoder.proofs.RingLaws.{lone_none, lone_next}
 use Rattle.decoder.proofs.rings.lone_rings.Goals as goal
 

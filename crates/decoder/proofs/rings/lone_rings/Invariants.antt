@@ -1,12 +1,6 @@
 -- `lone_rings` meets its contract: each turn makes one ring. Assumes nothing.
 use Prim.Native.Nat.{◌≤◌, ◌-◌}
-use mathlib.Core.Path.{◌≡◌, refl}
-use native.Mathlib.Numerals.{add-one}
-use native.Mathlib.Omega.{arith}
-use borrow.Author.Rules.{rules}
-use Rattle.model.specs.Board.{vertex_limit}
 use Rattle.decoder.specs.Rings.{LoneRings}
-use Rattle.decoder.proofs.RingLaws.{lone_none, lone_next}
 use Rattle.decoder.proofs.rings.lone_rings.Given as goal
 
 abbrev pub invariant-loop-v : goal.invariant-loop-v

@@ -1,10 +1,8 @@
 use Prim.Native.Nat.{◌<◌}
 use native.Mathlib.Omega.{arith}
-use lib.ListN.{length}
 use borrow.Author.Rules.{rules}
 use Rattle.model.specs.Board.{vertex_limit}
-use Rattle.decoder.specs.Rings.{way, Prunable}
-use Rattle.decoder.proofs.Pruning.{Pruning, prune_begins, prune_ends, prune_keeps, prune_drops, kept_below, v_below, keeps_fewer, drops_fewer}
+use Rattle.decoder.proofs.Pruning.{prune_begins, prune_ends, prune_keeps, prune_drops, kept_below, v_below, keeps_fewer, drops_fewer}
 use Rattle.decoder.proofs.rings.prune.Goals as goal
 
 pub bounds-ring-name : goal.bounds-ring-name

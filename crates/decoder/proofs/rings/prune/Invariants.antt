@@ -1,11 +1,8 @@
 -- `prune` meets its contract: each turn looks at one vertex of the ring. Assumes nothing.
-use Prim.Native.Nat.{◌<◌}
-use native.Mathlib.Omega.{arith}
 use lib.ListN.{length}
-use borrow.Author.Rules.{rules}
 use Rattle.model.specs.Board.{vertex_limit}
 use Rattle.decoder.specs.Rings.{way, Prunable}
-use Rattle.decoder.proofs.Pruning.{Pruning, prune_begins, prune_ends, prune_keeps, prune_drops, kept_below, v_below, keeps_fewer, drops_fewer}
+use Rattle.decoder.proofs.Pruning.{Pruning}
 use Rattle.decoder.proofs.rings.prune.Given as goal
 
 abbrev pub invariant-loop-v : goal.invariant-loop-v

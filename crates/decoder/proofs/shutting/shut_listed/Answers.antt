@@ -1,11 +1,8 @@
-use Prim.Native.Nat.{◌≤◌, ◌-◌}
 use mathlib.Core.Path.{◌≡◌, subst}
 use native.Mathlib.Numerals.{add-one}
 use native.Mathlib.Omega.{arith}
 use borrow.Author.Rules.{rules}
-use Rattle.union_find.specs.Packed.{parents_of}
-use Rattle.decoder.specs.Figures.{names_by}
-use Rattle.decoder.specs.Shutting.{ListShuttable, ShutUpTo}
+use Rattle.decoder.specs.Shutting.{ShutUpTo}
 use Rattle.decoder.proofs.ShutLaws.{at_vertex, shut_none, shut_first, shut_second, shut_next}
 use Rattle.decoder.proofs.shutting.shut_listed.Goals as goal
 

@@ -1,9 +1,5 @@
 -- `solve` meets its contract. Assumes nothing.
-use mathlib.Core.Path.{◌≡◌, sym, ap, ◌∙◌}
-use mathlib.Core.Option.{none}
-use borrow.Author.Rules.{rules}
-use Rattle.model.specs.Board.{board_of, sheet_of}
-use Rattle.model.specs.Refusals.{decode_refusal}
+use mathlib.Core.Path.{sym, ap, ◌∙◌}
 use Rattle.board.specs.Checks.{test_of}
 use Rattle.decoder.proofs.SolveLaws.{refuses, keyable, solves}
 use Rattle.decoder.proofs.solve.solve.Goals as goal

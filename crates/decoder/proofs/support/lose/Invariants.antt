@@ -1,15 +1,9 @@
 -- `lose` meets its contract: each turn starts one edge. Assumes nothing.
-use Prim.Native.Nat.{ℕ, ◌≤◌, ◌<◌, ◌-◌}
-use mathlib.Core.Path.{◌≡◌, sym, ◌∙◌, ap, subst}
+use Prim.Native.Nat.{◌≤◌, ◌-◌}
 use mathlib.Core.Bool.{cond}
-use mathlib.Core.Logic.{⊎_elim}
-use native.Mathlib.Numerals.{add-one}
 use lib.ListN.{length}
-use borrow.Author.Tests.{eq-eqb, ne_eqb}
-use Rattle.model.specs.Sums.{ones, values}
-use Rattle.decoder.proofs.Lifting.{Filled, fill_none, fill_one, fill_all}
-use borrow.Author.Rules.{rules}
-use native.Mathlib.Omega.{arith}
+use Rattle.model.specs.Sums.{ones}
+use Rattle.decoder.proofs.Lifting.{Filled}
 use Rattle.decoder.proofs.support.lose.Given as goal
 
 abbrev pub invariant-loop-e : goal.invariant-loop-e

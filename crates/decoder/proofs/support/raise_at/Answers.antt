@@ -1,10 +1,8 @@
-use Prim.Native.Nat.{ℕ, suc, ◌-◌, ◌<◌, ◌*◌}
+use Prim.Native.Nat.{suc, ◌-◌, ◌<◌, ◌*◌}
 use mathlib.Core.Path.{◌≡◌, refl, subst}
 use native.Mathlib.Omega.{arith}
 use borrow.Author.Rules.{rules}
 use Rattle.model.specs.Board.{edge_limit}
-use Rattle.union_find.specs.Trees.{at}
-use Rattle.decoder.specs.Gains.{RaisableAt}
 use Rattle.decoder.proofs.EndRaising.{RaisedFrom, raise_first, raise_liftable, goes_down, raise_next, raise_all}
 use Rattle.decoder.proofs.support.raise_at.Goals as goal
 

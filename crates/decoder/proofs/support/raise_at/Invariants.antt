@@ -1,12 +1,9 @@
 -- `raise_at` meets its contract: each turn gives a half-edge to one end. Assumes nothing.
-use Prim.Native.Nat.{ℕ, suc, ◌-◌, ◌<◌, ◌*◌}
-use mathlib.Core.Path.{◌≡◌, refl, subst}
-use native.Mathlib.Omega.{arith}
-use borrow.Author.Rules.{rules}
-use Rattle.model.specs.Board.{edge_limit}
+use Prim.Native.Nat.{ℕ}
+use mathlib.Core.Path.{◌≡◌}
 use Rattle.union_find.specs.Trees.{at}
 use Rattle.decoder.specs.Gains.{RaisableAt}
-use Rattle.decoder.proofs.EndRaising.{RaisedFrom, raise_first, raise_liftable, goes_down, raise_next, raise_all}
+use Rattle.decoder.proofs.EndRaising.{RaisedFrom}
 use Rattle.decoder.proofs.support.raise_at.Given as goal
 
 -- Of the vertex whose list begins at the first place, the ends from `place` on have got their half-edges. The vertex itself is no variable

@@ -1,11 +1,9 @@
-use Prim.Native.Nat.{◌≤◌, ◌<◌, ◌-◌}
+use Prim.Native.Nat.{◌<◌}
 use mathlib.Core.Path.{◌≡◌, refl}
-use mathlib.Core.Logic.{⊎_elim}
 use native.Mathlib.Numerals.{add-one}
 use lib.ListN.{length}
 use Rattle.model.specs.Board.{vertex_limit}
 use Rattle.model.specs.Components.{label}
-use Rattle.decoder.specs.Tallies.{Tallies}
 use Rattle.decoder.proofs.Tallying.{tally_none, tally_bound, tally_member, tally_other}
 use borrow.Author.Rules.{rules}
 use native.Mathlib.Omega.{arith}

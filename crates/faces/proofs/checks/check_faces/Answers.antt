@@ -1,10 +1,7 @@
 -- `faces::checks::check_faces` meets its contract: the side decides, or else the other tests. Assumes nothing.
 use mathlib.Core.Path.{sym, ◌∙◌}
-use mathlib.Core.Logic.{⊎_elim}
-use mathlib.Core.List.{List}
-use borrow.Author.Rules.{rules}
 use borrow.Author.Tests.{ltb-true, ltb-false}
-use Rattle.model.specs.Refusals.{Rule, torus_byte_rules, faces_refusal}
+use Rattle.model.specs.Refusals.{torus_byte_rules, faces_refusal}
 use Rattle.torus.proofs.SideRefused.{small_refused, large_refused, within_passes}
 use Rattle.faces.proofs.checks.check_faces.Goals.{then-side-lt-LEAST_SIDE-via-else-side-lt-LEAST_SIDE+then-side-gt-LARGEST_SIDE, then-side-lt-LEAST_SIDE-via-then-side-lt-LEAST_SIDE}
 use Rattle.faces.proofs.checks.check_faces.Goals as goal

@@ -1,5 +1,4 @@
 -- `faces::judging::build_and_compare` meets its contract: what is built is the torus, and the comparison is made on it. Assumes nothing.
-use borrow.Author.Rules.{rules}
 use Rattle.faces.proofs.BuiltTorus.{comparable, compared}
 use Rattle.faces.proofs.judging.build_and_compare.Goals as goal
 

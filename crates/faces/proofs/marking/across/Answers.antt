@@ -1,5 +1,4 @@
 -- `faces::marking::across` meets its contract: the exclusive or of three bytes. Assumes nothing.
-use borrow.Author.Rules.{rules}
 use Rattle.faces.proofs.MarkSteps.{across_byte}
 use Rattle.faces.proofs.marking.across.Goals as goal
 

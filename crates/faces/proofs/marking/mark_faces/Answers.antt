@@ -1,13 +1,9 @@
-use Prim.Native.Nat.{◌*◌, ◌-◌, ◌≤◌}
-use mathlib.Core.Path.{◌≡◌, refl}
+use mathlib.Core.Path.{refl}
 use native.Mathlib.Nat.{one-le-mul}
 use native.Mathlib.Omega.{arith}
 use borrow.Author.Rules.{rules}
-use lib.ListN.{length, length-set}
-use Rattle.model.specs.Sums.{bit, ones}
-use Rattle.model.specs.Winding.{together}
-use Rattle.model.specs.Faces.{face_of, face_bytes}
-use Rattle.torus.specs.Filling.{Filled}
+use lib.ListN.{length-set}
+use Rattle.model.specs.Faces.{face_bytes}
 use Rattle.torus.proofs.Filling.{filled_more, filled_all}
 use Rattle.torus.proofs.Numbering.{square_limit}
 use Rattle.faces.proofs.MarkSteps.{starts_unmarked}

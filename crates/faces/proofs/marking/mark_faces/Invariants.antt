@@ -1,17 +1,11 @@
 -- `faces::marking::mark_faces` meets its contract. The loop's invariant: the first i marks are those of the definition. Assumes nothing.
 use Prim.Native.Nat.{◌*◌, ◌-◌, ◌≤◌}
-use mathlib.Core.Path.{◌≡◌, refl}
-use native.Mathlib.Nat.{one-le-mul}
-use native.Mathlib.Omega.{arith}
-use borrow.Author.Rules.{rules}
-use lib.ListN.{length, length-set}
+use mathlib.Core.Path.{◌≡◌}
+use lib.ListN.{length}
 use Rattle.model.specs.Sums.{bit, ones}
 use Rattle.model.specs.Winding.{together}
-use Rattle.model.specs.Faces.{face_of, face_bytes}
+use Rattle.model.specs.Faces.{face_of}
 use Rattle.torus.specs.Filling.{Filled}
-use Rattle.torus.proofs.Filling.{filled_more, filled_all}
-use Rattle.torus.proofs.Numbering.{square_limit}
-use Rattle.faces.proofs.MarkSteps.{starts_unmarked}
 use Rattle.faces.proofs.marking.mark_faces.Given as goal
 
 abbrev pub invariant-loop-i : goal.invariant-loop-i

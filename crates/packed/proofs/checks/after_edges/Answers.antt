@@ -1,6 +1,5 @@
 -- `packed::checks::after_edges` meets its contract: the tests 4 and 6 decide, or else the refusal that it is handed. Assumes nothing.
 use mathlib.Core.Path.{sym}
-use borrow.Author.Rules.{rules}
 use Rattle.board.proofs.Failures.{refuses, passes_on}
 use Rattle.packed.proofs.checks.after_edges.Goals as goal
 

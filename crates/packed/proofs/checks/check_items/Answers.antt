@@ -1,8 +1,6 @@
 -- `packed::checks::check_items` meets its contract: each return has the facts of the tests that led to it. Assumes nothing.
 use mathlib.Core.Path.{sym}
 use mathlib.Core.Bool.{true, false}
-use mathlib.Core.Logic.{⊎_elim}
-use borrow.Author.Rules.{rules}
 use borrow.Author.Tests.{ltb-true, ltb-false, le-leb, lt-leb, not-true, not-false}
 use Rattle.packed.proofs.WordTests.{lengths_decide}
 use Rattle.packed.proofs.checks.check_items.Goals.{then-vertices-lt1-via-else-vertices-lt1+then-vertices-gt-VERTICES, then-vertices-lt1-via-then-vertices-lt1}

@@ -1,6 +1,5 @@
 -- `packed::checks::check_pack` meets its contract: the tests 1 to 3 decide, or else those of the bytes. Assumes nothing.
 use mathlib.Core.Path.{sym, ◌∙◌}
-use borrow.Author.Rules.{rules}
 use Rattle.board.proofs.Failures.{refuses, passes_on, passed}
 use Rattle.packed.proofs.WordTests.{items_allow, pack_tests}
 use Rattle.packed.proofs.checks.check_pack.Goals as goal

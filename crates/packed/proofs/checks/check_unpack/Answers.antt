@@ -1,6 +1,5 @@
 -- `packed::checks::check_unpack` meets its contract: the tests 1 to 3 decide, or else those of the words. Assumes nothing.
 use mathlib.Core.Path.{sym, ◌∙◌}
-use borrow.Author.Rules.{rules}
 use Rattle.board.proofs.Failures.{refuses, passes_on, passed}
 use Rattle.packed.proofs.WordTests.{items_say, unpack_tests}
 use Rattle.packed.proofs.checks.check_unpack.Goals as goal

@@ -1,7 +1,6 @@
 -- `packed::checks::check_words` meets its contract: the look at the syndrome's words decides, or else that at the loss words. Assumes
 -- nothing.
 use mathlib.Core.Path.{sym, ap, ◌∙◌}
-use borrow.Author.Rules.{rules}
 use Rattle.packed.specs.Found.{word_found}
 use Rattle.packed.proofs.WordTests.{syndrome_refused, loss_refused, neither_refused}
 use Rattle.packed.proofs.checks.check_words.Goals as goal

@@ -1,10 +1,8 @@
 -- `packed::checks::screen` meets its contract: the counts decide; then a word that is refused, after ends and marks; and where both pass,
 -- the rest is decoding's. Assumes nothing.
 use mathlib.Core.Path.{◌≡◌, sym, ap, ◌∙◌}
-use mathlib.Core.List.{List}
-use borrow.Author.Rules.{rules}
-use Rattle.model.specs.Board.{Board, board_of}
-use Rattle.model.specs.Refusals.{Rule, refusal_of}
+use Rattle.model.specs.Board.{board_of}
+use Rattle.model.specs.Refusals.{refusal_of}
 use Rattle.board.specs.Checks.{test_of}
 use Rattle.board.proofs.Failures.{passed}
 use Rattle.board.proofs.Validity.{counts_allow}

@@ -1,7 +1,6 @@
 -- `packed::decoding::decode_many` meets its contract: the arrays are as large as a board can be. Assumes nothing.
 use Prim.Native.Nat.{ℕ}
 use mathlib.Core.Path.{◌≡◌, sym}
-use borrow.Author.Rules.{rules}
 use lib.ListN.{take, replicate}
 use Rattle.model.specs.Board.{vertex_limit, edge_limit}
 use Rattle.model.specs.Refusals.{edges_of}

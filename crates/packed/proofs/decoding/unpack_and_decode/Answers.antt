@@ -1,6 +1,5 @@
 -- `packed::decoding::unpack_and_decode` meets its contract: what is decoded is the sheet that the words hold. Assumes nothing.
 use native.Mathlib.Omega.{arith}
-use borrow.Author.Rules.{rules}
 use Rattle.model.specs.Board.{board_of}
 use Rattle.model.specs.Refusals.{edges_of}
 use Rattle.packed.proofs.PackedDecoding.{zeros_long, zeros_are, decoded_unpacked}

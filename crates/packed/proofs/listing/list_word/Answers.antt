@@ -7,7 +7,6 @@ use lib.Count.{count_trailing_zeros}
 use lib.ListN.{length, length-set}
 use lib.Pow.{pow_pos, pow-lt}
 use Rattle.packed.specs.Listing.{bits_from}
-use Rattle.packed.specs.Storing.{Storing}
 use Rattle.packed.proofs.BitLists.{Lowest, lowest, bits_none}
 use Rattle.packed.proofs.StoringLaws.{storing_all, storing_next, storing_done}
 use Rattle.packed.proofs.listing.list_word.Goals as goal

@@ -1,17 +1,10 @@
 -- `packed::listing::list_word` meets its contract. The loop's invariant: with the bits of `rest` the list will be as with those of `word`.
 -- Assumes nothing.
-use Prim.Native.Nat.{◌+◌, ◌-◌, ◌*◌, ◌%◌, ◌^◌, ◌<◌}
-use mathlib.Core.Path.{◌≡◌, sym, ap, ◌∙◌}
-use mathlib.Core.List.{◌∷◌}
-use native.Mathlib.Omega.{arith}
-use borrow.Author.Rules.{rules}
-use lib.Count.{count_trailing_zeros}
-use lib.ListN.{length, length-set}
-use lib.Pow.{pow_pos, pow-lt}
+use Prim.Native.Nat.{◌^◌, ◌<◌}
+use mathlib.Core.Path.{◌≡◌}
+use lib.ListN.{length}
 use Rattle.packed.specs.Listing.{bits_from}
 use Rattle.packed.specs.Storing.{Storing}
-use Rattle.packed.proofs.BitLists.{Lowest, lowest, bits_none}
-use Rattle.packed.proofs.StoringLaws.{storing_all, storing_next, storing_done}
 use Rattle.packed.proofs.listing.list_word.Given as goal
 
 abbrev pub invariant-loop-rest : goal.invariant-loop-rest

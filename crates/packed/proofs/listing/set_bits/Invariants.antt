@@ -1,15 +1,10 @@
 -- `packed::listing::set_bits` meets its contract. The loop's invariant: `total` is the number of set bits in the first w words. Assumes
 -- nothing.
-use Prim.Native.Nat.{◌-◌, ◌*◌, ◌^◌, ◌≤◌, ◌<◌}
-use mathlib.Core.Path.{◌≡◌, ap, ◌∙◌}
-use native.Mathlib.Omega.{arith}
-use borrow.Author.Rules.{rules}
-use lib.Count.{ones, ones-le}
-use lib.ListN.{length, get_or}
+use Prim.Native.Nat.{◌-◌, ◌*◌, ◌≤◌}
+use mathlib.Core.Path.{◌≡◌}
+use lib.ListN.{length}
 use Rattle.model.specs.Sums.{count_up_to}
-use Rattle.model.specs.Words.{in_words, lit_total}
-use Rattle.model.proofs.SumLaws.{count_bound}
-use Rattle.packed.proofs.LitLaws.{next_total}
+use Rattle.model.specs.Words.{in_words}
 use Rattle.packed.proofs.listing.set_bits.Given as goal
 
 abbrev pub invariant-loop-w : goal.invariant-loop-w

@@ -1,4 +1,4 @@
-use Prim.Native.Nat.{◌+◌, ◌-◌, ◌*◌, ◌^◌, ◌≤◌, ◌<◌}
+use Prim.Native.Nat.{◌+◌, ◌*◌, ◌^◌, ◌<◌}
 use mathlib.Core.Path.{◌≡◌, ap, ◌∙◌}
 use native.Mathlib.Omega.{arith}
 use borrow.Author.Rules.{rules}
@@ -6,7 +6,6 @@ use lib.ListN.{length, length-set}
 use Rattle.model.specs.Sums.{ones, values}
 use Rattle.model.specs.Words.{word_count, number_with, items_of, words_of}
 use Rattle.model.proofs.ListLaws.{length_values}
-use Rattle.packed.specs.Storing.{Stored}
 use Rattle.packed.proofs.StoringLaws.{stored_none, stored_long, stored_value, stored_all}
 use Rattle.packed.proofs.packing.pack_items.Goals as goal
 

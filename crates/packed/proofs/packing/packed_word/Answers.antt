@@ -3,8 +3,7 @@ use native.Mathlib.Omega.{arith}
 use borrow.Author.Rules.{rules}
 use lib.ListN.{length, get_or}
 use Rattle.model.specs.Sums.{ones}
-use Rattle.model.specs.Words.{items_of}
-use Rattle.theory.proofs.PackedBits.{PackedFrom, packed_none, packed_more, packed_room}
+use Rattle.theory.proofs.PackedBits.{packed_none, packed_more, packed_room}
 use Rattle.packed.proofs.PackedWords.{packed_all, item_byte}
 use Rattle.packed.proofs.packing.packed_word.Goals as goal
 

@@ -1,12 +1,9 @@
 -- `packed::packing::packed_word` meets its contract. The loop's invariant: `word` has the bits from place k on. Assumes nothing.
-use Prim.Native.Nat.{◌+◌, ◌-◌, ◌*◌, ◌^◌, ◌≤◌, ◌<◌}
-use native.Mathlib.Omega.{arith}
-use borrow.Author.Rules.{rules}
-use lib.ListN.{length, get_or}
+use Prim.Native.Nat.{◌≤◌}
+use lib.ListN.{length}
 use Rattle.model.specs.Sums.{ones}
 use Rattle.model.specs.Words.{items_of}
-use Rattle.theory.proofs.PackedBits.{PackedFrom, packed_none, packed_more, packed_room}
-use Rattle.packed.proofs.PackedWords.{packed_all, item_byte}
+use Rattle.theory.proofs.PackedBits.{PackedFrom}
 use Rattle.packed.proofs.packing.packed_word.Given as goal
 
 abbrev pub invariant-loop-k : goal.invariant-loop-k

@@ -1,11 +1,8 @@
 -- `packed::unpacking::unpack_in_zeros` meets its contract. The loop's invariant: the items of the first w words are unpacked. Assumes
 -- nothing.
 use Prim.Native.Nat.{◌-◌, ◌≤◌}
-use native.Mathlib.Omega.{arith}
-use borrow.Author.Rules.{rules}
 use lib.ListN.{length}
 use Rattle.packed.specs.Unpacking.{ItemsUnpacked}
-use Rattle.packed.proofs.UnpackedWords.{items_none, items_more, items_all, zeros_left}
 use Rattle.packed.proofs.unpacking.unpack_in_zeros.Given as goal
 
 abbrev pub invariant-loop-w : goal.invariant-loop-w

@@ -1,8 +1,5 @@
-use Prim.Native.Nat.{◌-◌, ◌≤◌}
 use native.Mathlib.Omega.{arith}
 use borrow.Author.Rules.{rules}
-use lib.ListN.{length}
-use Rattle.packed.specs.Unpacking.{ItemsUnpacked}
 use Rattle.packed.proofs.UnpackedWords.{items_none, items_more, items_all}
 use Rattle.packed.proofs.unpacking.unpack_items.Goals as goal
 

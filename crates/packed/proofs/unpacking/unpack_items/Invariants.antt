@@ -1,10 +1,7 @@
 -- `packed::unpacking::unpack_items` meets its contract. The loop's invariant: the items of the first w words are unpacked. Assumes nothing.
 use Prim.Native.Nat.{◌-◌, ◌≤◌}
-use native.Mathlib.Omega.{arith}
-use borrow.Author.Rules.{rules}
 use lib.ListN.{length}
 use Rattle.packed.specs.Unpacking.{ItemsUnpacked}
-use Rattle.packed.proofs.UnpackedWords.{items_none, items_more, items_all}
 use Rattle.packed.proofs.unpacking.unpack_items.Given as goal
 
 abbrev pub invariant-loop-w : goal.invariant-loop-w

@@ -1,8 +1,7 @@
-use Prim.Native.Nat.{◌+◌, ◌-◌, ◌*◌, ◌≤◌, ◌<◌}
+use Prim.Native.Nat.{◌+◌, ◌*◌, ◌<◌}
 use native.Mathlib.Omega.{arith}
 use borrow.Author.Rules.{rules}
 use lib.ListN.{length}
-use Rattle.packed.specs.Unpacking.{BitsUnpacked}
 use Rattle.packed.proofs.UnpackedWords.{bits_begun, bits_more, word_unpacked}
 use Rattle.packed.proofs.unpacking.unpack_word.Goals as goal
 

@@ -1,10 +1,6 @@
 -- `packed::unpacking::unpack_word` meets its contract. The loop's invariant: the first k bits stand in their bytes. Assumes nothing.
-use Prim.Native.Nat.{◌+◌, ◌-◌, ◌*◌, ◌≤◌, ◌<◌}
-use native.Mathlib.Omega.{arith}
-use borrow.Author.Rules.{rules}
-use lib.ListN.{length}
+use Prim.Native.Nat.{◌-◌, ◌≤◌}
 use Rattle.packed.specs.Unpacking.{BitsUnpacked}
-use Rattle.packed.proofs.UnpackedWords.{bits_begun, bits_more, word_unpacked}
 use Rattle.packed.proofs.unpacking.unpack_word.Given as goal
 
 abbrev pub invariant-loop-k : goal.invariant-loop-k

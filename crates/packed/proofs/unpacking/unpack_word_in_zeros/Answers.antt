@@ -1,5 +1,4 @@
 -- `packed::unpacking::unpack_word_in_zeros` meets its contract: zeros are the bytes of a word without a set bit. Assumes nothing.
-use borrow.Author.Rules.{rules}
 use Rattle.packed.proofs.UnpackedWords.{word_passed}
 use Rattle.packed.proofs.unpacking.unpack_word_in_zeros.Goals as goal
 

@@ -1,6 +1,5 @@
 -- `packed::words::past_last` meets its contract: only the last word can have a bit past the last item. Assumes nothing.
 use Prim.Native.Nat.{◌/◌}
-use borrow.Author.Rules.{rules}
 use Rattle.packed.proofs.PastLast.{none_full, none_above, last_above}
 use Rattle.packed.proofs.words.past_last.Goals as goal
 

@@ -1,10 +1,9 @@
 use mathlib.Core.Path.{ap}
 use native.Mathlib.Omega.{arith}
-use borrow.Author.Rules.{rules}
 use Rattle.union_find.specs.Packed.{parents_of}
 use Rattle.union_find.proofs.Roots.{steps, steps_parent}
 use Rattle.union_find.proofs.Packing.{root_here, parent_here, no_root_here}
-use Rattle.peeling.proofs.FlipLaws.{Flipping, flipping_start, flipping_up, flipping_done}
+use Rattle.peeling.proofs.FlipLaws.{flipping_start, flipping_up, flipping_done}
 use Rattle.peeling.proofs.flips.flip.Goals as goal
 
 pub loop-w-init : goal.loop-w-init

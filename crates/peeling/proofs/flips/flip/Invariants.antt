@@ -1,11 +1,7 @@
 -- `peeling::flips::flip` meets its contract. The loop's invariant: what lies from the vertex reached on is still to flip. Assumes nothing.
-use mathlib.Core.Path.{ap}
-use native.Mathlib.Omega.{arith}
-use borrow.Author.Rules.{rules}
 use Rattle.union_find.specs.Packed.{parents_of}
-use Rattle.union_find.proofs.Roots.{steps, steps_parent}
-use Rattle.union_find.proofs.Packing.{root_here, parent_here, no_root_here}
-use Rattle.peeling.proofs.FlipLaws.{Flipping, flipping_start, flipping_up, flipping_done}
+use Rattle.union_find.proofs.Roots.{steps}
+use Rattle.peeling.proofs.FlipLaws.{Flipping}
 use Rattle.peeling.proofs.flips.flip.Given as goal
 
 abbrev pub invariant-loop-w : goal.invariant-loop-w

@@ -1,13 +1,8 @@
-use Prim.Native.Nat.{◌-◌, ◌≤◌}
 use mathlib.Core.Path.{◌≡◌}
-use mathlib.Core.Logic.{⊎_elim}
 use native.Mathlib.Omega.{arith}
 use borrow.Author.Rules.{rules}
 use borrow.Author.Tests.{eq-eqb, ne_eqb}
 use lib.ListN.{length}
-use Rattle.model.specs.Sums.{ones}
-use Rattle.union_find.specs.Packed.{parents_of}
-use Rattle.peeling.specs.TreeFlips.{AllFlippable, AllFlipped}
 use Rattle.peeling.proofs.FlipLaws.{all_flippable, still_flippable, none_flipped, flipped_next, flipped_passed}
 use Rattle.peeling.proofs.flips.flip_ends.Goals.{else-lit-v-eq1, then-lit-v-eq1}
 use Rattle.peeling.proofs.flips.flip_ends.Goals as goal

@@ -1,15 +1,9 @@
 -- `peeling::flips::flip_ends` meets its contract. The loop's invariant: the vertices passed that hold 1 have flipped. Assumes nothing.
 use Prim.Native.Nat.{◌-◌, ◌≤◌}
-use mathlib.Core.Path.{◌≡◌}
-use mathlib.Core.Logic.{⊎_elim}
-use native.Mathlib.Omega.{arith}
-use borrow.Author.Rules.{rules}
-use borrow.Author.Tests.{eq-eqb, ne_eqb}
 use lib.ListN.{length}
 use Rattle.model.specs.Sums.{ones}
 use Rattle.union_find.specs.Packed.{parents_of}
 use Rattle.peeling.specs.TreeFlips.{AllFlippable, AllFlipped}
-use Rattle.peeling.proofs.FlipLaws.{all_flippable, still_flippable, none_flipped, flipped_next, flipped_passed}
 use Rattle.peeling.proofs.flips.flip_ends.Given as goal
 
 abbrev pub invariant-loop-v : goal.invariant-loop-v

@@ -1,9 +1,7 @@
-use Prim.Native.Nat.{◌-◌, ◌≤◌}
 use mathlib.Core.Path.{sym, ◌∙◌}
-use mathlib.Core.Logic.{inl, inr}
 use native.Mathlib.Omega.{arith}
 use borrow.Author.Rules.{rules}
-use Rattle.peeling.proofs.SpanLaws.{Spanning, tree_fits, spanning_start, take_room, spanning_passed, spanning_next, spanning_done}
+use Rattle.peeling.proofs.SpanLaws.{tree_fits, spanning_start, take_room, spanning_passed, spanning_next, spanning_done}
 use Rattle.peeling.proofs.forest.span.Goals.{else-is_full, then-is_full}
 use Rattle.peeling.proofs.forest.span.Goals as goal
 

@@ -1,10 +1,6 @@
 -- `peeling::forest::span` meets its contract. The loop's invariant: the edges passed that are in the forest are listed. Assumes nothing.
 use Prim.Native.Nat.{◌-◌, ◌≤◌}
-use mathlib.Core.Path.{sym, ◌∙◌}
-use mathlib.Core.Logic.{inl, inr}
-use native.Mathlib.Omega.{arith}
-use borrow.Author.Rules.{rules}
-use Rattle.peeling.proofs.SpanLaws.{Spanning, tree_fits, spanning_start, take_room, spanning_passed, spanning_next, spanning_done}
+use Rattle.peeling.proofs.SpanLaws.{Spanning}
 use Rattle.peeling.proofs.forest.span.Given as goal
 
 abbrev pub invariant-loop-left : goal.invariant-loop-left

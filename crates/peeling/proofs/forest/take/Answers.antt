@@ -1,6 +1,5 @@
 -- `peeling::forest::take` meets its contract, in each of its two cases. Assumes nothing.
 use mathlib.Core.Path.{refl}
-use borrow.Author.Rules.{rules}
 use Rattle.peeling.specs.Links.{appended, passed}
 use Rattle.peeling.proofs.forest.take.Goals as goal
 

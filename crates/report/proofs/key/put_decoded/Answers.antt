@@ -1,9 +1,7 @@
 -- `report::key::put_decoded` meets its contract: decoding's refusal is number 10, and its key is that of the definition. Assumes nothing.
-use Prim.Native.Nat.{ℕ}
 use mathlib.Core.Path.{◌≡◌, sym}
-use mathlib.Core.List.{List}
 use borrow.Author.Rules.{rules}
-use Rattle.model.specs.Board.{board_of, Sheet, sheet_of}
+use Rattle.model.specs.Board.{board_of, sheet_of}
 use Rattle.model.specs.Report.{refusal_line, sheet_report}
 use Rattle.report.proofs.KeyLaws.{refused_report, KeyGiven, key_given}
 use Rattle.report.proofs.key.put_decoded.Goals as goal

@@ -1,7 +1,6 @@
 -- `report::key::put_key` meets its contract: growths, correction edges, distance, one after the other. Assumes nothing.
 use mathlib.Core.Path.{◌≡◌, sym}
 use native.Mathlib.Omega.{arith}
-use borrow.Author.Rules.{rules}
 use Rattle.model.specs.Board.{board_of}
 use Rattle.model.specs.Distance.{fewest}
 use Rattle.text.proofs.PutLaws.{then, long}

@@ -2,7 +2,6 @@
 use Prim.Native.Nat.{ℕ}
 use mathlib.Core.Path.{◌≡◌, sym}
 use lib.ListN.{length, take, replicate}
-use borrow.Author.Rules.{rules}
 use Rattle.model.specs.Board.{edge_limit}
 use Rattle.model.proofs.ListLaws.{front_long}
 use Rattle.report.proofs.key.put_sheet.Goals as goal

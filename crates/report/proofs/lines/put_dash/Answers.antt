@@ -1,5 +1,4 @@
 -- `report::lines::put_dash` meets its contract: four bytes, one after the other. Assumes nothing.
-use borrow.Author.Rules.{rules}
 use Rattle.text.proofs.PutLaws.{then}
 use Rattle.report.proofs.ReportLineLaws.{dash_bytes}
 use Rattle.report.proofs.lines.put_dash.Goals as goal

@@ -2,7 +2,6 @@
 use Prim.Native.Nat.{ℕ}
 use mathlib.Core.Path.{◌≡◌, refl}
 use mathlib.Core.Option.{none}
-use borrow.Author.Rules.{rules}
 use Rattle.model.specs.declared.answers.Distance.{Distance}
 use Rattle.model.specs.declared.answers.Distance.TheVariants.{Fewest, Nothing, Refused}
 use Rattle.report.specs.ReportLines.{fewest_in}

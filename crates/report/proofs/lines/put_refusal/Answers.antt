@@ -4,7 +4,6 @@ use Prim.Native.Nat.{◌≤◌}
 use mathlib.Core.Path.{sym}
 use native.Mathlib.Omega.{arith}
 use lib.ListN.{length}
-use borrow.Author.Rules.{rules}
 use Rattle.model.specs.Text.{decimal}
 use Rattle.text.proofs.DecimalLaws.{digits}
 use Rattle.text.proofs.PutLaws.{then, long}

@@ -1,6 +1,5 @@
 -- Each case of a key has its two values. Assumes nothing.
 use mathlib.Core.Path.{sym, ap, ◌∙◌}
-use borrow.Author.Rules.{rules}
 use Rattle.model.specs.Packing.{packed_decoded}
 use Rattle.table.proofs.packing.pack_decoded.Goals as goal
 

@@ -1,7 +1,6 @@
 -- The player is the first value; the second is one more than the edge, or 0. Assumes nothing.
 use Prim.Native.Nat.{◌+◌}
 use mathlib.Core.Path.{sym, ap, ◌∙◌}
-use borrow.Author.Rules.{rules}
 use Rattle.model.specs.Packing.{packed, packed_forced}
 use Rattle.table.proofs.packing.pack_forced.Goals as goal
 

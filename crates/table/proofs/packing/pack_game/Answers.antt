@@ -1,6 +1,5 @@
 -- Each case of the game's answer has its number. Assumes nothing.
 use mathlib.Core.Path.{sym, ap, ◌∙◌}
-use borrow.Author.Rules.{rules}
 use Rattle.model.specs.Packing.{packed_game}
 use Rattle.table.proofs.packing.pack_game.Goals as goal
 

@@ -1,6 +1,5 @@
 -- The total is the first value. Assumes nothing.
 use mathlib.Core.Path.{sym, ap, ◌∙◌}
-use borrow.Author.Rules.{rules}
 use Rattle.model.specs.Packing.{packed_lit}
 use Rattle.table.proofs.packing.pack_lit.Goals as goal
 

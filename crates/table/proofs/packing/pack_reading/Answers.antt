@@ -1,6 +1,5 @@
 -- Both counts are the two values. Assumes nothing.
 use mathlib.Core.Path.{sym, ap, ◌∙◌}
-use borrow.Author.Rules.{rules}
 use Rattle.model.specs.Packing.{packed_reading}
 use Rattle.table.proofs.packing.pack_reading.Goals as goal
 

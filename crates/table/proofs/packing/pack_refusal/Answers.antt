@@ -1,7 +1,6 @@
 -- The number of a refusal, and above it the place. Assumes nothing.
 use Prim.Native.Nat.{◌+◌, ◌*◌, ◌%◌, ◌^◌}
 use mathlib.Core.Path.{ap₂}
-use borrow.Author.Rules.{rules}
 use Rattle.table.proofs.packing.pack_refusal.Goals as goal
 
 pub returns : goal.returns

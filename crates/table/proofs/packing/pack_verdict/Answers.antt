@@ -1,6 +1,5 @@
 -- Each case of a verdict has its two values. Assumes nothing.
 use mathlib.Core.Path.{sym, ap, ◌∙◌}
-use borrow.Author.Rules.{rules}
 use Rattle.model.specs.Packing.{packed_verdict}
 use Rattle.table.proofs.packing.pack_verdict.Goals as goal
 

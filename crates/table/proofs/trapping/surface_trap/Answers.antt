@@ -1,6 +1,5 @@
 -- The number is the packed answer of the definition; what it is taken apart into is what `trap` answered, with the buffer that it left.
 -- Assumes nothing.
-use borrow.Author.Rules.{rules}
 use Rattle.table.proofs.Exported.{trap_exported}
 use Rattle.table.proofs.trapping.surface_trap.Goals as goal
 

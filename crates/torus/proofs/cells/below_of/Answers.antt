@@ -1,6 +1,5 @@
 -- `torus::cells::below_of` meets its contract. Assumes nothing.
 use native.Mathlib.Omega.{arith}
-use borrow.Author.Rules.{rules}
 use Rattle.torus.proofs.Numbering.{row_less, below_limit}
 use Rattle.torus.proofs.cells.below_of.Goals as goal
 

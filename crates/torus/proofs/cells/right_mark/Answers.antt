@@ -1,5 +1,4 @@
 -- `torus::cells::right_mark` meets its contract. Assumes nothing.
-use borrow.Author.Rules.{rules}
 use borrow.Author.Tests.{eq-eqb, ne_eqb}
 use Rattle.torus.proofs.cells.right_mark.Goals as goal
 

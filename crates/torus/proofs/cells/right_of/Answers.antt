@@ -1,7 +1,6 @@
 -- `torus::cells::right_of` meets its contract. Assumes nothing.
 use native.Mathlib.Nat.{mod-lt, div-mul-le_self}
 use native.Mathlib.Omega.{arith}
-use borrow.Author.Rules.{rules}
 use Rattle.torus.proofs.Numbering.{right_limit}
 use Rattle.torus.proofs.cells.right_of.Goals as goal
 

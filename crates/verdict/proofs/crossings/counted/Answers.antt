@@ -1,5 +1,4 @@
 -- An edge counts where it crosses and is in exactly one of the two sets. Assumes nothing.
-use borrow.Author.Rules.{rules}
 use Rattle.verdict.proofs.CrossingCounts.{crossing, staying}
 use Rattle.verdict.proofs.crossings.counted.Goals as goal
 

@@ -1,13 +1,9 @@
 -- The loop's two parities are those of the edges passed. Assumes nothing.
-use Prim.Native.Nat.{◌+◌, ◌*◌, ◌≤◌, ◌-◌}
-use mathlib.Core.Path.{◌≡◌, ap₂, subst}
-use native.Mathlib.Omega.{arith}
+use Prim.Native.Nat.{◌≤◌, ◌-◌}
 use lib.ListN.{length}
-use borrow.Author.Rules.{rules}
 use Rattle.model.specs.Sums.{ones}
 use Rattle.model.specs.Winding.{together}
-use Rattle.verdict.specs.CrossingParities.{on_line_a, on_line_b}
-use Rattle.verdict.proofs.CrossingCounts.{Counted, no_parity, next_parity}
+use Rattle.verdict.proofs.CrossingCounts.{Counted}
 use Rattle.verdict.proofs.crossings.crossings.Given as goal
 
 abbrev pub invariant-loop-e : goal.invariant-loop-e

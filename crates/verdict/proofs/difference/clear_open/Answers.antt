@@ -1,11 +1,8 @@
-use Prim.Native.Nat.{◌≤◌, ◌-◌}
 use mathlib.Core.Path.{◌≡◌}
-use mathlib.Core.Logic.{⊎_elim}
 use native.Mathlib.Numerals.{add-one}
 use native.Mathlib.Omega.{arith}
 use lib.ListN.{length}
 use borrow.Author.Rules.{rules}
-use Rattle.verdict.specs.VertexParities.{Cleared}
 use Rattle.verdict.proofs.Clearing.{cleared_none, cleared_open, cleared_pass}
 use Rattle.verdict.proofs.difference.clear_open.Goals.{else-opened-v-eq1, then-opened-v-eq1}
 use Rattle.verdict.proofs.difference.clear_open.Goals as goal

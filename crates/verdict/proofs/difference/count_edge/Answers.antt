@@ -1,6 +1,5 @@
 -- An edge that is handed in flips both of its ends, any other none. Assumes nothing.
 use native.Mathlib.Omega.{arith}
-use borrow.Author.Rules.{rules}
 use Rattle.verdict.proofs.ByteFlips.{edge_in, edge_out}
 use Rattle.verdict.proofs.difference.count_edge.Goals as goal
 

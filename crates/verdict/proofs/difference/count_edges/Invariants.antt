@@ -1,12 +1,8 @@
 -- The bytes flipped are those of the edges passed. Assumes nothing.
 use Prim.Native.Nat.{◌≤◌, ◌-◌}
-use mathlib.Core.Path.{◌≡◌, subst}
-use native.Mathlib.Omega.{arith}
 use lib.ListN.{length}
-use borrow.Author.Rules.{rules}
 use Rattle.model.specs.Sums.{ones}
 use Rattle.verdict.specs.VertexParities.{Flipped, met_by}
-use Rattle.verdict.proofs.ByteFlips.{counted_none, counted_more}
 use Rattle.verdict.proofs.difference.count_edges.Given as goal
 
 abbrev pub invariant-loop-e : goal.invariant-loop-e

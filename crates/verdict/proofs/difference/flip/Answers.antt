@@ -1,5 +1,4 @@
 -- One byte is turned over. Assumes nothing.
-use borrow.Author.Rules.{rules}
 use Rattle.verdict.proofs.ByteFlips.{turned}
 use Rattle.verdict.proofs.difference.flip.Goals as goal
 

@@ -4,7 +4,7 @@ use mathlib.Core.Path.{◌≡◌, sym, ap, ◌∙◌}
 use native.Mathlib.Omega.{arith}
 use lib.ListN.{length-take}
 use lib.Seq.{length-take-le}
-use Rattle.model.specs.Board.{Board, board_of}
+use Rattle.model.specs.Board.{board_of}
 use Rattle.model.specs.Sums.{ones}
 use Rattle.model.specs.Verdict.{differs}
 use Rattle.board.specs.Checks.{vertex_found}

@@ -1,6 +1,5 @@
 -- `find` meets its contract. Assumes nothing.
 use Rattle.decoder.proofs.BookLaws.{finds}
-use borrow.Author.Rules.{rules}
 use Rattle.decoder.proofs.book.Book.find.Goals as goal
 
 pub returns : goal.returns

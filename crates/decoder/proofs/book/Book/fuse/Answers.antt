@@ -1,5 +1,4 @@
 -- `fuse` meets its contract. Assumes nothing.
-use borrow.Author.Rules.{rules}
 use Rattle.decoder.proofs.BookLaws.{roots_joinable, fuse_mergeable, fuses}
 use Rattle.decoder.proofs.book.Book.fuse.Goals as goal
 

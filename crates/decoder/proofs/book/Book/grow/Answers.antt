@@ -1,17 +1,9 @@
-use Prim.Native.Nat.{ℕ, ◌≤◌, ◌<◌, ◌-◌}
+use Prim.Native.Nat.{ℕ}
 use mathlib.Core.Path.{◌≡◌, sym, ap}
-use mathlib.Core.Logic.{⊎_elim}
-use mathlib.Core.List.{List}
 use native.Mathlib.Numerals.{add-one}
 use native.Mathlib.Omega.{arith}
-use lib.ListN.{length, get_or}
 use borrow.Author.Rules.{rules}
-use Rattle.model.specs.Board.{edge_limit}
 use Rattle.decoder.specs.declared.book.Book.{Book}
-use Rattle.union_find.specs.Packed.{parents_of}
-use Rattle.decoder.specs.Figures.{names_by}
-use Rattle.decoder.specs.Rings.{Rings}
-use Rattle.decoder.specs.Books.{BothKept, FusesListed}
 use Rattle.decoder.proofs.BookLaws.{united_together}
 use Rattle.decoder.proofs.Fusing.{fuse_next, both_rooted, both_named, joined_rings}
 use Rattle.decoder.proofs.GrowthStep.{raisable, raised, few_listed, growable_listed, shut_begins, shut_rings, next_kept, grows}

@@ -1,6 +1,5 @@
 -- `lone` meets its contract. Assumes nothing.
 use native.Mathlib.Omega.{arith}
-use borrow.Author.Rules.{rules}
 use Rattle.decoder.proofs.FigureLaws.{lone_figure}
 use Rattle.decoder.proofs.figure.Figure.lone.Goals as goal
 

@@ -1,6 +1,5 @@
 -- `plus` meets its contract. Assumes nothing.
 use native.Mathlib.Omega.{arith}
-use borrow.Author.Rules.{rules}
 use Rattle.decoder.specs.Figures.{plus_figure}
 use Rattle.decoder.proofs.figure.Figure.plus.Goals as goal
 
