@@ -2,10 +2,8 @@
 use Prim.Native.Nat.{◌≤◌}
 use mathlib.Core.Path.{refl, sym}
 use native.Mathlib.Omega.{arith}
-use borrow.Author.Tests.{ltb-true, ltb-false, eqb-true, le-leb, eq-eqb, ne_eqb, not-true, not-false}
-use lib.ListN.{length}
-use lib.Dec.{eqb}
-use Rattle.model.specs.Planar.{largest_planar, planar_vertices, planar_edges}
+use borrow.Author.Tests.{le-leb, eq-eqb, ne_eqb}
+use Rattle.model.specs.Planar.{largest_planar}
 use Rattle.model.specs.Refusals.{planar_refusal}
 use Rattle.model.specs.Outcomes.{planar_answer}
 use Rattle.planar.proofs.Numbering.{vertices_limit, edges_limit}
@@ -16,29 +14,29 @@ use Rattle.planar.proofs.planar.Goals as goal
 pub returns-then-side-lt-LEAST_PLANAR : goal.returns-then-side-lt-LEAST_PLANAR
 returns-then-side-lt-LEAST_PLANAR c = record {
   result =
-      elim c.then-side-lt-LEAST_PLANAR.branch [ then-side-lt-LEAST_PLANAR-via-then-side-lt-LEAST_PLANAR w ↦ sym (side_too_small _ _ _ _ w.if-side-lt-LEAST_PLANAR.true) | then-side-lt-LEAST_PLANAR-via-else-side-lt-LEAST_PLANAR+then-side-gt-LARGEST_PLANAR w ↦ sym (side_too_large _ _ _ _ w.if-side-lt-LEAST_PLANAR.false (ltb-true _ _ w.if-side-gt-LARGEST_PLANAR.true-raw)) ];
+      elim c.then-side-lt-LEAST_PLANAR.branch [ then-side-lt-LEAST_PLANAR-via-then-side-lt-LEAST_PLANAR w ↦ sym (side_too_small _ _ _ _ w.if-side-lt-LEAST_PLANAR.true) | then-side-lt-LEAST_PLANAR-via-else-side-lt-LEAST_PLANAR+then-side-gt-LARGEST_PLANAR w ↦ sym (side_too_large _ _ _ _ w.if-side-lt-LEAST_PLANAR.false w.if-side-gt-LARGEST_PLANAR.true) ];
   ends_filled = refl;
   marks_filled = refl;
   open_filled = refl;
 }
 
 pub overflow_mul-edges : goal.overflow_mul-edges
-overflow_mul-edges c = omega (arith, edges_limit c.args.side (ltb-false _ _ c.if-side-gt-LARGEST_PLANAR.false-raw))
+overflow_mul-edges c = omega (arith, edges_limit c.args.side c.if-side-gt-LARGEST_PLANAR.false)
 
 pub overflow_mul-edges-2 : goal.overflow_mul-edges-2
-overflow_mul-edges-2 c = omega (arith, edges_limit c.args.side (ltb-false _ _ c.if-side-gt-LARGEST_PLANAR.false-raw))
+overflow_mul-edges-2 c = omega (arith, edges_limit c.args.side c.if-side-gt-LARGEST_PLANAR.false)
 
 pub overflow_add-edges : goal.overflow_add-edges
-overflow_add-edges c = omega (arith, edges_limit c.args.side (ltb-false _ _ c.if-side-gt-LARGEST_PLANAR.false-raw))
+overflow_add-edges c = omega (arith, edges_limit c.args.side c.if-side-gt-LARGEST_PLANAR.false)
 
 pub overflow_add-vertices : goal.overflow_add-vertices
-overflow_add-vertices c = let most : c.args.side ≤ largest_planar = ltb-false _ _ c.if-side-gt-LARGEST_PLANAR.false-raw in omega arith
+overflow_add-vertices c = let most : c.args.side ≤ largest_planar = c.if-side-gt-LARGEST_PLANAR.false in omega arith
 
 pub overflow_mul-vertices : goal.overflow_mul-vertices
-overflow_mul-vertices c = omega (arith, vertices_limit c.args.side (ltb-false _ _ c.if-side-gt-LARGEST_PLANAR.false-raw))
+overflow_mul-vertices c = omega (arith, vertices_limit c.args.side c.if-side-gt-LARGEST_PLANAR.false)
 
 pub overflow_mul-edges-3 : goal.overflow_mul-edges-3
-overflow_mul-edges-3 c = omega (arith, edges_limit c.args.side (ltb-false _ _ c.if-side-gt-LARGEST_PLANAR.false-raw))
+overflow_mul-edges-3 c = omega (arith, edges_limit c.args.side c.if-side-gt-LARGEST_PLANAR.false)
 
 pub returns-then-ends-edges : goal.returns-then-ends-edges
 unfolding planar_answer planar_refusal
@@ -46,14 +44,14 @@ returns-then-ends-edges c =
     let a = c.args in
     record {
       result =
-          rw (le-leb _ _ c.if-side-lt-LEAST_PLANAR.false, le-leb _ _ (ltb-false _ _ c.if-side-gt-LARGEST_PLANAR.false-raw))
+          rw (le-leb _ _ c.if-side-lt-LEAST_PLANAR.false, le-leb _ _ c.if-side-gt-LARGEST_PLANAR.false)
           (elim c.then-ends-edges.branch [
             | then-ends-edges-via-then-ends-edges w ↦ rw (ne_eqb _ _ w.if-ends-edges.true)
-            | then-ends-edges-via-else-ends-edges+then-marks-edges w ↦ rw (eq-eqb _ _ w.if-ends-edges.false, not-true (eqb (length a.marks.now) (planar_edges a.side)) w.if-marks-edges.true-raw)
+            | then-ends-edges-via-else-ends-edges+then-marks-edges w ↦ rw (eq-eqb _ _ w.if-ends-edges.false, ne_eqb _ _ w.if-marks-edges.true)
             | then-ends-edges-via-else-ends-edges+else-marks-edges+then-opened-vertices w ↦ rw (
               eq-eqb _ _ w.if-ends-edges.false,
-              not-false (eqb (length a.marks.now) (planar_edges a.side)) w.if-marks-edges.false-raw,
-              not-true (eqb (length a.opened.now) (planar_vertices a.side)) w.if-opened-vertices.true-raw,
+              eq-eqb _ _ w.if-marks-edges.false,
+              ne_eqb _ _ w.if-opened-vertices.true,
             )
           ]);
       ends_filled = refl;
@@ -64,15 +62,15 @@ returns-then-ends-edges c =
 pub fill_marks-requires : goal.fill_marks-requires
 fill_marks-requires c =
     let a = c.args in (
-      record { least = c.if-side-lt-LEAST_PLANAR.false; most = ltb-false _ _ c.if-side-gt-LARGEST_PLANAR.false-raw },
-      eqb-true _ _ (not-false (eqb (length a.marks.now) (planar_edges a.side)) c.if-marks-edges.false-raw),
+      record { least = c.if-side-lt-LEAST_PLANAR.false; most = c.if-side-gt-LARGEST_PLANAR.false },
+      c.if-marks-edges.false,
     )
 
 pub fill_open-requires : goal.fill_open-requires
 fill_open-requires c =
     let a = c.args in (
-      record { least = c.if-side-lt-LEAST_PLANAR.false; most = ltb-false _ _ c.if-side-gt-LARGEST_PLANAR.false-raw },
-      eqb-true _ _ (not-false (eqb (length a.opened.now) (planar_vertices a.side)) c.if-opened-vertices.false-raw),
+      record { least = c.if-side-lt-LEAST_PLANAR.false; most = c.if-side-gt-LARGEST_PLANAR.false },
+      c.if-opened-vertices.false,
     )
 
 pub returns : goal.returns
@@ -83,10 +81,10 @@ returns c =
       result =
           rw (
             le-leb _ _ c.if-side-lt-LEAST_PLANAR.false,
-            le-leb _ _ (ltb-false _ _ c.if-side-gt-LARGEST_PLANAR.false-raw),
+            le-leb _ _ c.if-side-gt-LARGEST_PLANAR.false,
             eq-eqb _ _ c.if-ends-edges.false,
-            not-false (eqb (length a.marks.now) (planar_edges a.side)) c.if-marks-edges.false-raw,
-            not-false (eqb (length a.opened.now) (planar_vertices a.side)) c.if-opened-vertices.false-raw,
+            eq-eqb _ _ c.if-marks-edges.false,
+            eq-eqb _ _ c.if-opened-vertices.false,
           );
       ends_filled = c.fill_ends.ensures;
       marks_filled = c.fill_marks.ensures;

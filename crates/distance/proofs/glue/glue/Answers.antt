@@ -6,7 +6,6 @@ use borrow.Author.Rules.{rules}
 use lib.ListN.{length, get_or}
 use Rattle.model.specs.Board.{edge_limit}
 use Rattle.distance.proofs.GluedEnds.{sent_none, sent_open, sent_shut, sent_all}
-use Rattle.distance.proofs.glue.glue.Goals.{else-opened-v-eq1, then-opened-v-eq1}
 use Rattle.distance.proofs.glue.glue.Goals as goal
 
 pub loop-i-init : goal.loop-i-init
@@ -30,22 +29,12 @@ bounds-glued-i c =
     omega (arith, c.loop-i-test.true, c.requires.few) in
     end-room
 
-pub bounds-glued-i-else-opened-v-eq1 : goal.bounds-glued-i-else-opened-v-eq1
-bounds-glued-i-else-opened-v-eq1 c =
-    let end-room : c.loop-i.i < 2 * edge_limit =
-    omega (arith, c.loop-i-test.true, c.requires.few) in
-    end-room
-
 pub loop-i-preserved : goal.loop-i-preserved
 loop-i-preserved c =
     let end-room : c.loop-i.i < 2 * edge_limit =
     omega (arith, c.loop-i-test.true, c.requires.few) in
     let sent = c.loop-i.invariant.1 in
-    let to = c.gate-to.ensures in (
-      search rules,
-      rw add-one
-          (elim c.if-opened-v-eq1.branch [ then-opened-v-eq1 w ↦ rw w.glued-is (sent_open _ _ sent end-room _ to w.if-opened-v-eq1.true) | else-opened-v-eq1 w ↦ rw w.glued-is (sent_shut _ _ sent end-room w.if-opened-v-eq1.false) ]),
-    )
+    (search rules, rw add-one (grind (arith, sent_open _ _ sent end-room _ c.gate-to.ensures, sent_shut _ _ sent end-room)))
 
 pub returns : goal.returns
 returns c =

@@ -4,9 +4,6 @@ use native.Mathlib.Omega.{arith}
 use Rattle.distance.proofs.StateLaws.{copy_bound, across_to_first, across_to_second}
 use Rattle.distance.proofs.state.State.across.Goals as goal
 
-pub overflow_cast-copy : goal.overflow_cast-copy
-overflow_cast-copy c = omega (arith, c.shared_slice_known-3-1.given c.args.edge.0)
-
 pub overflow_mul-far : goal.overflow_mul-far
 overflow_mul-far c = omega (arith, c.second_end-second.ensures, c.requires.0.inside.second_in_range c.args.edge.0 c.requires.1)
 
