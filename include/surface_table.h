@@ -1,6 +1,6 @@
 /* The surface code table: a proved Union-Find decoder for one error kind on a graph with lost edges.
  *
- * `rt staticlib table` proves the calls below and writes them to target/staticlib/libtable.a. What
+ * `rt lib` in crates/table proves the calls below and writes them to crates/table/out/libtable.a. What
  * each answers and writes is told in docs/RULES.md, and is proved of every input, refused ones too.
  *
  * A buffer is a pointer and a count of elements. The calls test everything that they are lent, the

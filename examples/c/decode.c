@@ -1,7 +1,7 @@
 /* Decodes three sheets on the ring. The second has no correction; the third has, since vertex 0 is open there.
  *
- *     rt staticlib table
- *     cc -Iinclude examples/c/decode.c target/staticlib/libtable.a -o target/example && target/example
+ *     (cd crates/table && rt lib)
+ *     cc -Iinclude examples/c/decode.c crates/table/out/libtable.a -o crates/table/out/example && crates/table/out/example
  */
 #include "refused.h"
 

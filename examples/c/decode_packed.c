@@ -1,8 +1,8 @@
 /* Decodes packed sheets on the ring: vertices 0 and 3 lit; the same with edges 0, 1 and 2 lost; one lit vertex, which has no correction;
  * and words with a bit for a vertex, or for an edge, that isn't there.
  *
- *     rt staticlib table
- *     cc -Iinclude examples/c/decode_packed.c target/staticlib/libtable.a -o target/example && target/example
+ *     (cd crates/table && rt lib)
+ *     cc -Iinclude examples/c/decode_packed.c crates/table/out/libtable.a -o crates/table/out/example && crates/table/out/example
  */
 #include "refused.h"
 

@@ -1,7 +1,7 @@
 /* Decodes a sheet on a path in rounds and then one growth at a time, and a sheet that has no correction.
  *
- *     rt staticlib table
- *     cc -Iinclude examples/c/decode_rounds.c target/staticlib/libtable.a -o target/example && target/example
+ *     (cd crates/table && rt lib)
+ *     cc -Iinclude examples/c/decode_rounds.c crates/table/out/libtable.a -o crates/table/out/example && crates/table/out/example
  */
 #include "refused.h"
 

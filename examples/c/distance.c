@@ -1,7 +1,7 @@
 /* Finds the distance of the ring, of the ring with vertices 0 and 2 open, and of the ring with all its marks rubbed out.
  *
- *     rt staticlib table
- *     cc -Iinclude examples/c/distance.c target/staticlib/libtable.a -o target/example && target/example
+ *     (cd crates/table && rt lib)
+ *     cc -Iinclude examples/c/distance.c crates/table/out/libtable.a -o crates/table/out/example && crates/table/out/example
  */
 #include "refused.h"
 

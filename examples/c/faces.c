@@ -2,8 +2,8 @@
  * edge 0, from vertex 0 to 1. Edges 12, 13 and 15 go from 0 to 1 round the other sides of face 6, and edges 1, 3 and 6 round those of face
  * 0, which is never marked: all other faces are. Edges 2 and 4 go round the torus. No torus has side 33.
  *
- *     rt staticlib table
- *     cc -Iinclude examples/c/faces.c target/staticlib/libtable.a -o target/example && target/example
+ *     (cd crates/table && rt lib)
+ *     cc -Iinclude examples/c/faces.c crates/table/out/libtable.a -o crates/table/out/example && crates/table/out/example
  */
 #include "refused.h"
 

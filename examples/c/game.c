@@ -2,8 +2,8 @@
  * have mark 1, join 2 and 0. Winder wants an edge of each side. Says who wins from the start, and after each first move of hers; then plays
  * all games in which she takes the edge that is shown and Blocker any; then asks about two positions that are refused.
  *
- *     rt staticlib table
- *     cc -Iinclude examples/c/game.c target/staticlib/libtable.a -o target/example && target/example
+ *     (cd crates/table && rt lib)
+ *     cc -Iinclude examples/c/game.c crates/table/out/libtable.a -o crates/table/out/example && crates/table/out/example
  */
 #include "refused.h"
 

@@ -1,7 +1,7 @@
 /* Lists the lit vertices of a packed syndrome of 66 vertices; then of words with a bit for a vertex that isn't there.
  *
- *     rt staticlib table
- *     cc -Iinclude examples/c/list_lit.c target/staticlib/libtable.a -o target/example && target/example
+ *     (cd crates/table && rt lib)
+ *     cc -Iinclude examples/c/list_lit.c crates/table/out/libtable.a -o crates/table/out/example && crates/table/out/example
  */
 #include "refused.h"
 

@@ -1,7 +1,7 @@
 /* Counts the lit vertices of a packed syndrome of 66 vertices; then with a word too few, and of 1,025 vertices.
  *
- *     rt staticlib table
- *     cc -Iinclude examples/c/lit_total.c target/staticlib/libtable.a -o target/example && target/example
+ *     (cd crates/table && rt lib)
+ *     cc -Iinclude examples/c/lit_total.c crates/table/out/libtable.a -o crates/table/out/example && crates/table/out/example
  */
 #include "refused.h"
 

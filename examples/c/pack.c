@@ -1,8 +1,8 @@
 /* Packs a syndrome of 66 vertices, of which those past the first 64 stand in a second word, and the losses of three edges. Then one of the
  * loss bytes is above 1.
  *
- *     rt staticlib table
- *     cc -Iinclude examples/c/pack.c target/staticlib/libtable.a -o target/example && target/example
+ *     (cd crates/table && rt lib)
+ *     cc -Iinclude examples/c/pack.c crates/table/out/libtable.a -o crates/table/out/example && crates/table/out/example
  */
 #include "refused.h"
 

@@ -1,8 +1,8 @@
 /* Builds the planar board of side 2, lists it, and decodes one lit vertex on it: the correction runs off the board. No planar board has
  * side 32.
  *
- *     rt staticlib table
- *     cc -Iinclude examples/c/planar.c target/staticlib/libtable.a -o target/example && target/example
+ *     (cd crates/table && rt lib)
+ *     cc -Iinclude examples/c/planar.c crates/table/out/libtable.a -o crates/table/out/example && crates/table/out/example
  */
 #include "refused.h"
 

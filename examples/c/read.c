@@ -1,7 +1,7 @@
 /* Reads the text of a sheet, one whose third line names a vertex that isn't there, and one that lights an open vertex.
  *
- *     rt staticlib table
- *     cc -Iinclude examples/c/read.c target/staticlib/libtable.a -o target/example && target/example
+ *     (cd crates/table && rt lib)
+ *     cc -Iinclude examples/c/read.c crates/table/out/libtable.a -o crates/table/out/example && crates/table/out/example
  */
 #include <string.h>
 

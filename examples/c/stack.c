@@ -2,8 +2,8 @@
  * round 1, and vertex 17 is read wrongly in round 0: the correction says so. 41 rounds of side 5 are more than 1,024 vertices. With one
  * vertex wrong in the last round, which must be right, there is no correction; and a reading is 0 or 1.
  *
- *     rt staticlib table
- *     cc -Iinclude examples/c/stack.c target/staticlib/libtable.a -o target/example && target/example
+ *     (cd crates/table && rt lib)
+ *     cc -Iinclude examples/c/stack.c crates/table/out/libtable.a -o crates/table/out/example && crates/table/out/example
  */
 #include "refused.h"
 

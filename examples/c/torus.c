@@ -1,7 +1,7 @@
 /* Builds the tori of sides 1 and 2 and lists their edges; both edges of side 1 return to its one vertex. No torus has side 33.
  *
- *     rt staticlib table
- *     cc -Iinclude examples/c/torus.c target/staticlib/libtable.a -o target/example && target/example
+ *     (cd crates/table && rt lib)
+ *     cc -Iinclude examples/c/torus.c crates/table/out/libtable.a -o crates/table/out/example && crates/table/out/example
  */
 #include "refused.h"
 

@@ -2,8 +2,8 @@
  * misleads the table; and with all marks rubbed out. Shows the verdict on each trap, and of the second, which is the only smallest one,
  * what the table answers. The torus of side 3 has too many edges.
  *
- *     rt staticlib table
- *     cc -Iinclude examples/c/trap.c target/staticlib/libtable.a -o target/example && target/example
+ *     (cd crates/table && rt lib)
+ *     cc -Iinclude examples/c/trap.c crates/table/out/libtable.a -o crates/table/out/example && crates/table/out/example
  */
 #include "refused.h"
 

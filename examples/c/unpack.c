@@ -1,8 +1,8 @@
 /* Unpacks the words of a syndrome of 66 vertices and of the losses of three edges; then words with a bit for an edge that isn't there, and
  * words that have one for a vertex that isn't there as well, which is found first.
  *
- *     rt staticlib table
- *     cc -Iinclude examples/c/unpack.c target/staticlib/libtable.a -o target/example && target/example
+ *     (cd crates/table && rt lib)
+ *     cc -Iinclude examples/c/unpack.c crates/table/out/libtable.a -o crates/table/out/example && crates/table/out/example
  */
 #include "refused.h"
 

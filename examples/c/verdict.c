@@ -1,7 +1,7 @@
 /* Judges sets that are handed in for one sheet on the ring. Its correction is edge 3.
  *
- *     rt staticlib table
- *     cc -Iinclude examples/c/verdict.c target/staticlib/libtable.a -o target/example && target/example
+ *     (cd crates/table && rt lib)
+ *     cc -Iinclude examples/c/verdict.c crates/table/out/libtable.a -o crates/table/out/example && crates/table/out/example
  */
 #include "refused.h"
 

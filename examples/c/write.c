@@ -1,7 +1,7 @@
 /* Writes the text of a sheet on the ring, vertex 2 open, which the decode program reads; then asks for it in a buffer that is too short.
  *
- *     rt staticlib table
- *     cc -Iinclude examples/c/write.c target/staticlib/libtable.a -o target/example && target/example
+ *     (cd crates/table && rt lib)
+ *     cc -Iinclude examples/c/write.c crates/table/out/libtable.a -o crates/table/out/example && crates/table/out/example
  */
 #include "refused.h"
 

@@ -1,15 +1,32 @@
 // The decode program: a text on standard input, its report on standard output. A read that fails counts as the end of the text.
 #![tactic(auto)]
 
-use libc::{STDIN_FILENO, STDOUT_FILENO};
+ghost use Rattle.std.specs.Prelude.{◌≤◌, length};
+
 use model::limits::TEXT;
 use report::{LONGEST, report};
+use std::io;
+use std::io::{Read, Stdin};
 
-fn main() {
+// Reads until the buffer is full, the input ends or a read fails, and answers with how many bytes are at its start.
+fn read_full(input: &mut Stdin, text: &mut [u8]) -> usize
+    ensures { result ≤ length text.new }
+{
+    let mut done = 0;
+    while done < text.len() {
+        match input.read(&mut text[done..]) {
+            Ok(0) | Err(_) => break,
+            Ok(n) => done += n,
+        }
+    }
+    done
+}
+
+fn main(rt: HostRuntime) -> io::Result<()> {
     // One byte more than the longest text that is read: what does not fit is too long.
     let mut text = [0u8; TEXT + 1];
     let mut out = [0u8; LONGEST];
-    let read = io::read_full(STDIN_FILENO, &mut text);
+    let read = read_full(&mut rt.stdin(), &mut text);
     let length = report(&text[..read], &mut out);
-    io::write_all(STDOUT_FILENO, &out[..length]);
+    rt.write_all(&out[..length])
 }

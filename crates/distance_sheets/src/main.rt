@@ -4,115 +4,115 @@
 
 ghost use Rattle.std.specs.Prelude.{◌≤◌, length};
 
-use libc::STDOUT_FILENO;
 use model::answers::{Built, Distance};
 use model::refusal::{number, place};
+use std::io;
 
-fn main() {
-    marked_boards();
-    parallel_edges();
-    loop_edges();
-    several_loops();
-    no_winding_loop();
-    tori();
-    rings();
-    counts_refused();
-    edges_refused();
+fn main(rt: HostRuntime) -> io::Result<()> {
+    marked_boards(&rt)?;
+    parallel_edges(&rt)?;
+    loop_edges(&rt)?;
+    several_loops(&rt)?;
+    no_winding_loop(&rt)?;
+    tori(&rt)?;
+    rings(&rt)?;
+    counts_refused(&rt)?;
+    edges_refused(&rt)
 }
 
 // The ring, m8 and m9.
-fn marked_boards() {
-    board(b"ring", 4, b"01122330", b"0001");
-    board(b"m8", 2, b"0101", b"01");
-    board(b"m9", 1, b"", b"");
+fn marked_boards(rt: &impl Print) -> io::Result<()> {
+    board(rt, b"ring", 4, b"01122330", b"0001")?;
+    board(rt, b"m8", 2, b"0101", b"01")?;
+    board(rt, b"m9", 1, b"", b"")
 }
 
 // Two and three edges between the same ends, with every pair of marks other than 0.
-fn parallel_edges() {
-    board(b"1 2", 2, b"0110", b"12");
-    board(b"1 3", 2, b"0110", b"13");
-    board(b"2 3", 2, b"0110", b"23");
-    board(b"3 3", 2, b"0101", b"33");
-    board(b"1 2 3", 2, b"010110", b"123");
-    board(b"2 2 3", 2, b"010110", b"223");
+fn parallel_edges(rt: &impl Print) -> io::Result<()> {
+    board(rt, b"1 2", 2, b"0110", b"12")?;
+    board(rt, b"1 3", 2, b"0110", b"13")?;
+    board(rt, b"2 3", 2, b"0110", b"23")?;
+    board(rt, b"3 3", 2, b"0101", b"33")?;
+    board(rt, b"1 2 3", 2, b"010110", b"123")?;
+    board(rt, b"2 2 3", 2, b"010110", b"223")
 }
 
 // A marked loop edge is a winding loop by itself, wherever it stands; one without a mark shortens nothing.
-fn loop_edges() {
-    board(b"loop 0", 1, b"00", b"0");
-    board(b"loop 3", 1, b"00", b"3");
-    board(b"two loops", 1, b"0000", b"22");
-    board(b"later loop", 4, b"0112233022", b"00013");
-    board(b"unmarked loop", 4, b"0112233022", b"00010");
-    board(b"apart loop", 3, b"011022", b"012");
+fn loop_edges(rt: &impl Print) -> io::Result<()> {
+    board(rt, b"loop 0", 1, b"00", b"0")?;
+    board(rt, b"loop 3", 1, b"00", b"3")?;
+    board(rt, b"two loops", 1, b"0000", b"22")?;
+    board(rt, b"later loop", 4, b"0112233022", b"00013")?;
+    board(rt, b"unmarked loop", 4, b"0112233022", b"00010")?;
+    board(rt, b"apart loop", 3, b"011022", b"012")
 }
 
 // The shortest loop is not at the first vertex, or is a part of its own, or shares edges with one that does not wind.
-fn several_loops() {
-    board(b"later", 5, b"011223303443", b"000102");
-    board(b"apart", 7, b"01122330455664", b"1000233");
-    board(b"chord", 4, b"0112233002", b"00200");
-    board(b"theta", 3, b"01120202", b"3210");
+fn several_loops(rt: &impl Print) -> io::Result<()> {
+    board(rt, b"later", 5, b"011223303443", b"000102")?;
+    board(rt, b"apart", 7, b"01122330455664", b"1000233")?;
+    board(rt, b"chord", 4, b"0112233002", b"00200")?;
+    board(rt, b"theta", 3, b"01120202", b"3210")
 }
 
 // Trees, a triangle whose marks cancel, and a lone vertex beside an edge.
-fn no_winding_loop() {
-    board(b"path", 4, b"011223", b"000");
-    board(b"marked path", 4, b"011223", b"123");
-    board(b"triangle", 3, b"011220", b"123");
-    board(b"edge", 3, b"02", b"3");
+fn no_winding_loop(rt: &impl Print) -> io::Result<()> {
+    board(rt, b"path", 4, b"011223", b"000")?;
+    board(rt, b"marked path", 4, b"011223", b"123")?;
+    board(rt, b"triangle", 3, b"011220", b"123")?;
+    board(rt, b"edge", 3, b"02", b"3")
 }
 
 // Tori of side 1 to 8, and of the largest side.
-fn tori() {
-    sheet(Filling::Torus, 1, 4, 2, 2);
-    sheet(Filling::Torus, 2, 16, 8, 8);
-    sheet(Filling::Torus, 3, 36, 18, 18);
-    sheet(Filling::Torus, 4, 64, 32, 32);
-    sheet(Filling::Torus, 5, 100, 50, 50);
-    sheet(Filling::Torus, 6, 144, 72, 72);
-    sheet(Filling::Torus, 7, 196, 98, 98);
-    sheet(Filling::Torus, 8, 256, 128, 128);
-    sheet(Filling::Torus, 32, 4096, 2048, 2048);
+fn tori(rt: &impl Print) -> io::Result<()> {
+    sheet(rt, Filling::Torus, 1, 4, 2, 2)?;
+    sheet(rt, Filling::Torus, 2, 16, 8, 8)?;
+    sheet(rt, Filling::Torus, 3, 36, 18, 18)?;
+    sheet(rt, Filling::Torus, 4, 64, 32, 32)?;
+    sheet(rt, Filling::Torus, 5, 100, 50, 50)?;
+    sheet(rt, Filling::Torus, 6, 144, 72, 72)?;
+    sheet(rt, Filling::Torus, 7, 196, 98, 98)?;
+    sheet(rt, Filling::Torus, 8, 256, 128, 128)?;
+    sheet(rt, Filling::Torus, 32, 4096, 2048, 2048)
 }
 
 // Rings with one edge, or as many as there may be, between neighbours.
-fn rings() {
-    sheet(Filling::Ring, 2, 8192, 4096, 4096);
-    sheet(Filling::Ring, 3, 6, 3, 3);
-    sheet(Filling::Ring, 1024, 2048, 1024, 1024);
-    sheet(Filling::Ring, 1024, 8192, 4096, 4096);
+fn rings(rt: &impl Print) -> io::Result<()> {
+    sheet(rt, Filling::Ring, 2, 8192, 4096, 4096)?;
+    sheet(rt, Filling::Ring, 3, 6, 3, 3)?;
+    sheet(rt, Filling::Ring, 1024, 2048, 1024, 1024)?;
+    sheet(rt, Filling::Ring, 1024, 8192, 4096, 4096)
 }
 
 // Numbers 1, 2 and 3 on both sides of their limits. All ends and marks are 0: what passes these tests has no edges but loop edges, none
 // of them marked.
-fn counts_refused() {
-    sheet(Filling::Zeros, 0, 0, 0, 0);
-    sheet(Filling::Zeros, 1, 0, 0, 0);
-    sheet(Filling::Zeros, 1024, 0, 0, 0);
-    sheet(Filling::Zeros, 1025, 0, 0, 0);
-    sheet(Filling::Zeros, 1, 1, 0, 0);
-    sheet(Filling::Zeros, 1024, 8192, 4096, 4096);
-    sheet(Filling::Zeros, 1024, 8194, 4097, 4097);
-    sheet(Filling::Zeros, 1025, 8194, 4097, 4097);
-    sheet(Filling::Zeros, 2, 4, 1, 2);
-    sheet(Filling::Zeros, 2, 4, 3, 2);
-    sheet(Filling::Zeros, 2, 4, 2, 1);
-    sheet(Filling::Zeros, 2, 4, 2, 3);
+fn counts_refused(rt: &impl Print) -> io::Result<()> {
+    sheet(rt, Filling::Zeros, 0, 0, 0, 0)?;
+    sheet(rt, Filling::Zeros, 1, 0, 0, 0)?;
+    sheet(rt, Filling::Zeros, 1024, 0, 0, 0)?;
+    sheet(rt, Filling::Zeros, 1025, 0, 0, 0)?;
+    sheet(rt, Filling::Zeros, 1, 1, 0, 0)?;
+    sheet(rt, Filling::Zeros, 1024, 8192, 4096, 4096)?;
+    sheet(rt, Filling::Zeros, 1024, 8194, 4097, 4097)?;
+    sheet(rt, Filling::Zeros, 1025, 8194, 4097, 4097)?;
+    sheet(rt, Filling::Zeros, 2, 4, 1, 2)?;
+    sheet(rt, Filling::Zeros, 2, 4, 3, 2)?;
+    sheet(rt, Filling::Zeros, 2, 4, 2, 1)?;
+    sheet(rt, Filling::Zeros, 2, 4, 2, 3)
 }
 
 // Numbers 4 and 6: the smallest number wins, then the first edge. Equal ends break no rule of their own.
-fn edges_refused() {
-    board(b"first end", 3, b"013299", b"004");
-    board(b"second end", 3, b"012213", b"040");
-    board(b"equal", 3, b"012211", b"400");
-    board(b"equal outside", 3, b"013311", b"400");
-    board(b"mark", 3, b"011220", b"394");
-    board(b"last mark", 3, b"011220", b"304");
+fn edges_refused(rt: &impl Print) -> io::Result<()> {
+    board(rt, b"first end", 3, b"013299", b"004")?;
+    board(rt, b"second end", 3, b"012213", b"040")?;
+    board(rt, b"equal", 3, b"012211", b"400")?;
+    board(rt, b"equal outside", 3, b"013311", b"400")?;
+    board(rt, b"mark", 3, b"011220", b"394")?;
+    board(rt, b"last mark", 3, b"011220", b"304")
 }
 
 // A small board: a digit for each end and for each mark.
-fn board(name: &[u8], vertices: usize, ends: &[u8], marks: &[u8])
+fn board(rt: &impl Print, name: &[u8], vertices: usize, ends: &[u8], marks: &[u8]) -> io::Result<()>
     requires { (length ends.now ≤ 16) × (length marks.now ≤ 8) }
 {
     let mut first = [0u16; 16];
@@ -121,6 +121,7 @@ fn board(name: &[u8], vertices: usize, ends: &[u8], marks: &[u8])
     let e = ends.len();
     let m = marks.len();
     show_read(
+        rt,
         name,
         vertices,
         ends,
@@ -128,10 +129,11 @@ fn board(name: &[u8], vertices: usize, ends: &[u8], marks: &[u8])
         &mut first[..e],
         &mut second[..m],
         &mut third[..m],
-    );
+    )
 }
 
 fn show_read(
+    rt: &impl Print,
     name: &[u8],
     vertices: usize,
     end_digits: &[u8],
@@ -139,10 +141,10 @@ fn show_read(
     ends: &mut [u16],
     marks: &mut [u8],
     shown: &mut [u8],
-) {
+) -> io::Result<()> {
     read_ends(end_digits, ends);
     read_marks(mark_digits, marks);
-    show(name, vertices, ends, marks, shown);
+    show(rt, name, vertices, ends, marks, shown)
 }
 
 fn read_ends(digits: &[u8], ends: &mut [u16]) {
@@ -174,35 +176,50 @@ enum Filling {
 }
 
 // A board in buffers of those lengths, and a buffer full of sevens for the loop. n is the vertex count, of a torus the side.
-fn sheet(filling: Filling, n: usize, ends: usize, marks: usize, shown: usize)
+fn sheet(
+    rt: &impl Print,
+    filling: Filling,
+    n: usize,
+    ends: usize,
+    marks: usize,
+    shown: usize,
+) -> io::Result<()>
     requires { (n ≤ 1025) × (ends ≤ 8194) × (marks ≤ 4097) × (shown ≤ 4097) }
 {
     let mut first = [0u16; 8194];
     let mut second = [0u8; 4097];
     let mut third = [7u8; 4097];
     show_filled(
+        rt,
         filling,
         n,
         &mut first[..ends],
         &mut second[..marks],
         &mut third[..shown],
-    );
+    )
 }
 
-fn show_filled(filling: Filling, n: usize, ends: &mut [u16], marks: &mut [u8], shown: &mut [u8])
+fn show_filled(
+    rt: &impl Print,
+    filling: Filling,
+    n: usize,
+    ends: &mut [u16],
+    marks: &mut [u8],
+    shown: &mut [u8],
+) -> io::Result<()>
     requires { n ≤ 1025 }
 {
     match filling {
-        Filling::Zeros => show(b"zeros", n, ends, marks, shown),
+        Filling::Zeros => show(rt, b"zeros", n, ends, marks, shown),
         Filling::Ring => {
             fill_ring(n, ends, marks);
-            show(b"ring", n, ends, marks, shown);
+            show(rt, b"ring", n, ends, marks, shown)
         }
         Filling::Torus => {
             let Built::Vertices(vertices) = torus::torus(n, ends, marks) else {
-                return;
+                return Ok(());
             };
-            show(b"torus", vertices, ends, marks, shown);
+            show(rt, b"torus", vertices, ends, marks, shown)
         }
     }
 }
@@ -235,30 +252,37 @@ fn after(v: usize, vertices: usize) -> usize
 
 // One line: the name and the vertex count; D with the distance, or N with number and place; how many bytes of the buffer are 1,
 // 0 and 7; and W where the marks of those that are 1 do not cancel.
-fn show(name: &[u8], vertices: usize, ends: &[u16], marks: &[u8], shown: &mut [u8]) {
-    io::write_all(STDOUT_FILENO, name);
-    print(b"\t", vertices as u64);
+fn show(
+    rt: &impl Print,
+    name: &[u8],
+    vertices: usize,
+    ends: &[u16],
+    marks: &[u8],
+    shown: &mut [u8],
+) -> io::Result<()> {
+    rt.write_all(name)?;
+    print(rt, b"\t", vertices as u64)?;
     let zeros = [0u8; MOST];
     let n = unopened(vertices);
     match distance::distance(vertices, ends, marks, &zeros[..n], shown) {
         Distance::Fewest(edges) => {
-            print(b"\tD\t", edges as u64);
+            print(rt, b"\tD\t", edges as u64)?;
         }
         Distance::Nothing => {
-            io::write_all(STDOUT_FILENO, b"\tD\t-");
+            rt.write_all(b"\tD\t-")?;
         }
         Distance::Refused(refusal) => {
-            print(b"\tN\t", number(refusal) as u64);
-            print(b"\t", place(refusal) as u64);
+            print(rt, b"\tN\t", number(refusal) as u64)?;
+            print(rt, b"\t", place(refusal) as u64)?;
         }
     }
-    print(b"\t", count(shown, 1));
-    print(b"\t", count(shown, 0));
-    print(b"\t", count(shown, 7));
+    print(rt, b"\t", count(shown, 1))?;
+    print(rt, b"\t", count(shown, 0))?;
+    print(rt, b"\t", count(shown, 7))?;
     if crossings(shown, marks) != 0 {
-        io::write_all(STDOUT_FILENO, b"\tW");
+        rt.write_all(b"\tW")?;
     }
-    io::write_all(STDOUT_FILENO, b"\n");
+    rt.write_all(b"\n")
 }
 
 // One more vertex than a board may have.
@@ -274,9 +298,9 @@ fn unopened(vertices: usize) -> usize
     MOST
 }
 
-fn print(before: &[u8], n: u64) {
-    io::write_all(STDOUT_FILENO, before);
-    io::print_decimal(STDOUT_FILENO, n);
+fn print(rt: &impl Print, before: &[u8], n: u64) -> io::Result<()> {
+    rt.write_all(before)?;
+    print!(rt; "{n}")
 }
 
 // How many bytes are x.

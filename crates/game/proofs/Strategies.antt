@@ -163,7 +163,7 @@ module _ (B : Board) where
       (subst (λ S. WinsBy B Q rival (other S) (taken S e p)) opposite w)
 
   -- No two players win: played against each other, two strategies come to one end.
-  pub exclusive : {P Q turn : Player} {plan rival : Strategy} {p : List ℕ} → WinsBy B P plan turn p → WinsBy B Q rival turn p → P ≡ Q
+  pub exclusive : {P Q : Player} {plan rival : Strategy} {turn : Player} {p : List ℕ} → WinsBy B P plan turn p → WinsBy B Q rival turn p → P ≡ Q
   exclusive (at_end o w) (at_end o' w') = sym w ∙ w'
   exclusive (at_end o w) (by_plan o' t' c' n') = absurd (false≢true (sym o' ∙ o))
   exclusive (at_end o w) (by_any o' t' n') = absurd (false≢true (sym o' ∙ o))

@@ -8,9 +8,11 @@ mod marked;
 mod refusals;
 mod summary;
 
-pub(crate) fn all() {
-    marked::all();
-    further::all();
-    limits::all();
-    refusals::all();
+use std::io;
+
+pub(crate) fn all(rt: &impl Print) -> io::Result<()> {
+    marked::all(rt)?;
+    further::all(rt)?;
+    limits::all(rt)?;
+    refusals::all(rt)
 }

@@ -7,7 +7,9 @@ mod output;
 mod unopened;
 mod verdicts;
 
-fn main() {
-    decoding::all();
-    verdicts::all();
+use std::io;
+
+fn main(rt: HostRuntime) -> io::Result<()> {
+    decoding::all(&rt)?;
+    verdicts::all(&rt)
 }

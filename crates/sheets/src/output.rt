@@ -1,38 +1,39 @@
 // The parts of a printed line. Each only writes to standard output, of which no contract can speak.
-use libc::STDOUT_FILENO;
 use model::refusal::{Refusal, number, place};
+use std::io;
 
-pub(crate) fn text(bytes: &[u8]) {
-    io::write_all(STDOUT_FILENO, bytes);
+pub(crate) fn text(rt: &impl Print, bytes: &[u8]) -> io::Result<()> {
+    rt.write_all(bytes)
 }
 
 // The start of a line: what is decoded or judged.
-pub(crate) fn name(bytes: &[u8]) {
-    text(bytes);
-    text(b": ");
+pub(crate) fn name(rt: &impl Print, bytes: &[u8]) -> io::Result<()> {
+    text(rt, bytes)?;
+    text(rt, b": ")
 }
 
-pub(crate) fn count(n: usize) {
-    io::print_decimal(STDOUT_FILENO, n as u64);
+pub(crate) fn count(rt: &impl Print, n: usize) -> io::Result<()> {
+    print!(rt; "{n}")
 }
 
-fn digit(byte: u8) {
-    count(byte as usize);
+fn digit(rt: &impl Print, byte: u8) -> io::Result<()> {
+    count(rt, byte as usize)
 }
 
 // Each byte as a number, one after the other.
-pub(crate) fn bytes(all: &[u8]) {
+pub(crate) fn bytes(rt: &impl Print, all: &[u8]) -> io::Result<()> {
     let mut i = 0;
     while i < all.len() {
-        digit(all[i]);
+        digit(rt, all[i])?;
         i += 1;
     }
+    Ok(())
 }
 
 // A refusal: its number and its place.
-pub(crate) fn refused(refusal: Refusal) {
-    text(b"number ");
-    digit(number(refusal));
-    text(b", place ");
-    count(place(refusal));
+pub(crate) fn refused(rt: &impl Print, refusal: Refusal) -> io::Result<()> {
+    text(rt, b"number ")?;
+    digit(rt, number(refusal))?;
+    text(rt, b", place ")?;
+    count(rt, place(refusal))
 }

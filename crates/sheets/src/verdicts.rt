@@ -5,8 +5,10 @@ mod loops;
 mod marked;
 mod refusals;
 
-pub(crate) fn all() {
-    marked::all();
-    loops::all();
-    refusals::all();
+use std::io;
+
+pub(crate) fn all(rt: &impl Print) -> io::Result<()> {
+    marked::all(rt)?;
+    loops::all(rt)?;
+    refusals::all(rt)
 }

@@ -1,6 +1,6 @@
 //! Decoding of one error kind on a graph with lost edges, by a proved Union-Find decoder.
 //!
-//! The calls are those of the static library that `rt staticlib table` writes from the proved
+//! The calls are those of the static library that `rt lib` writes in `crates/table` from the proved
 //! Rattle code; `docs/RULES.md` tells what they answer. The library tests everything that it is
 //! lent, lengths included, and refuses what breaks a rule: each call answers with a [`Result`], and
 //! one that gives a [`Refusal`] has written nothing. Here the borrow checker adds the one thing that

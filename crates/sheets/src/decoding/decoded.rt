@@ -4,32 +4,34 @@ use crate::decoding::summary::summary;
 use crate::{output, unopened};
 use decoder::decode;
 use model::answers::Decoded;
+use std::io;
 
-fn answer(decoded: Decoded) {
+fn answer(rt: &impl Print, decoded: Decoded) -> io::Result<()> {
     match decoded {
         Decoded::Key { growths, edges } => {
-            output::count(growths);
-            output::text(b" growths, ");
-            output::count(edges);
-            output::text(b" edges");
+            output::count(rt, growths)?;
+            output::text(rt, b" growths, ")?;
+            output::count(rt, edges)?;
+            output::text(rt, b" edges")
         }
-        Decoded::Refused(refusal) => output::refused(refusal),
+        Decoded::Refused(refusal) => output::refused(rt, refusal),
     }
 }
 
 // What stands in a buffer: every byte, or what sums them up where they are many.
-fn buffer(bytes: &[u8]) {
+fn buffer(rt: &impl Print, bytes: &[u8]) -> io::Result<()> {
     if bytes.len() == 0 {
-        output::text(b"-");
+        output::text(rt, b"-")
     } else if bytes.len() > 20 {
-        summary(bytes);
+        summary(rt, bytes)
     } else {
-        output::bytes(bytes);
+        output::bytes(rt, bytes)
     }
 }
 
 // The line of a sheet, but for its name.
 pub(crate) fn show(
+    rt: &impl Print,
     vertices: usize,
     ends: &[u16],
     marks: &[u8],
@@ -37,24 +39,27 @@ pub(crate) fn show(
     loss: &[u8],
     support: &mut [u8],
     correction: &mut [u8],
-) {
+) -> io::Result<()> {
     let zeros = [0u8; unopened::MOST];
     let n = unopened::count(vertices);
-    answer(decode(
-        vertices,
-        ends,
-        marks,
-        &zeros[..n],
-        syndrome,
-        loss,
-        support,
-        correction,
-    ));
-    output::text(b", support ");
-    buffer(support);
-    output::text(b", correction ");
-    buffer(correction);
-    output::text(b"\n");
+    answer(
+        rt,
+        decode(
+            vertices,
+            ends,
+            marks,
+            &zeros[..n],
+            syndrome,
+            loss,
+            support,
+            correction,
+        ),
+    )?;
+    output::text(rt, b", support ")?;
+    buffer(rt, support)?;
+    output::text(rt, b", correction ")?;
+    buffer(rt, correction)?;
+    output::text(rt, b"\n")
 }
 
 // How many edges the ends stand for, but at most 20.
@@ -69,11 +74,19 @@ fn few(ends: &[u16]) -> usize
 }
 
 // The line of a sheet of at most 20 edges. Both buffers are lent full of nines, so that what decoding does not write shows.
-pub(crate) fn small(vertices: usize, ends: &[u16], marks: &[u8], syndrome: &[u8], loss: &[u8]) {
+pub(crate) fn small(
+    rt: &impl Print,
+    vertices: usize,
+    ends: &[u16],
+    marks: &[u8],
+    syndrome: &[u8],
+    loss: &[u8],
+) -> io::Result<()> {
     let edges = few(ends);
     let mut support = [9; 20];
     let mut correction = [9; 20];
     show(
+        rt,
         vertices,
         ends,
         marks,
@@ -81,5 +94,5 @@ pub(crate) fn small(vertices: usize, ends: &[u16], marks: &[u8], syndrome: &[u8]
         loss,
         &mut support[..edges],
         &mut correction[..edges],
-    );
+    )
 }

@@ -2,6 +2,7 @@
 ghost use Rattle.std.specs.Prelude.{◌≤◌};
 
 use crate::output;
+use std::io;
 
 // How many bytes hold the value.
 fn how_many(bytes: &[u8], value: u8) -> usize {
@@ -35,14 +36,14 @@ fn digest(bytes: &[u8]) -> u32 {
 }
 
 // How many bytes are 0, 1, 2 and 9, and the digest.
-pub(crate) fn summary(bytes: &[u8]) {
-    output::count(how_many(bytes, 0));
-    output::text(b" ");
-    output::count(how_many(bytes, 1));
-    output::text(b" ");
-    output::count(how_many(bytes, 2));
-    output::text(b" ");
-    output::count(how_many(bytes, 9));
-    output::text(b" digest ");
-    output::count(digest(bytes) as usize);
+pub(crate) fn summary(rt: &impl Print, bytes: &[u8]) -> io::Result<()> {
+    output::count(rt, how_many(bytes, 0))?;
+    output::text(rt, b" ")?;
+    output::count(rt, how_many(bytes, 1))?;
+    output::text(rt, b" ")?;
+    output::count(rt, how_many(bytes, 2))?;
+    output::text(rt, b" ")?;
+    output::count(rt, how_many(bytes, 9))?;
+    output::text(rt, b" digest ")?;
+    output::count(rt, digest(bytes) as usize)
 }

@@ -2,30 +2,31 @@
 use crate::boards::*;
 use crate::output::name;
 use crate::verdicts::judged::show;
+use std::io;
 
-fn looped(handed: &[u8; 3]) {
-    show(2, &LOOPED, &LOOPED_MARKS, &[1, 1], &[0; 3], handed);
+fn looped(rt: &impl Print, handed: &[u8; 3]) -> io::Result<()> {
+    show(rt, 2, &LOOPED, &LOOPED_MARKS, &[1, 1], &[0; 3], handed)
 }
 
-fn side_one(lit: &[u8; 1], handed: &[u8; 2]) {
-    show(1, &SIDE_ONE, &SIDE_ONE_MARKS, lit, &[0; 2], handed);
+fn side_one(rt: &impl Print, lit: &[u8; 1], handed: &[u8; 2]) -> io::Result<()> {
+    show(rt, 1, &SIDE_ONE, &SIDE_ONE_MARKS, lit, &[0; 2], handed)
 }
 
-pub(crate) fn all() {
-    name(b"loop edges, right");
-    looped(&[0, 1, 0]);
-    name(b"loop edges, with a loop");
-    looped(&[1, 1, 0]);
-    name(b"loop edges, off");
-    looped(&[1, 0, 1]);
-    name(b"side 1, empty");
-    side_one(&[0], &[0, 0]);
-    name(b"side 1, across line A");
-    side_one(&[0], &[1, 0]);
-    name(b"side 1, across line B");
-    side_one(&[0], &[0, 1]);
-    name(b"side 1, across both");
-    side_one(&[0], &[1, 1]);
-    name(b"side 1, lit");
-    side_one(&[1], &[0, 0]);
+pub(crate) fn all(rt: &impl Print) -> io::Result<()> {
+    name(rt, b"loop edges, right")?;
+    looped(rt, &[0, 1, 0])?;
+    name(rt, b"loop edges, with a loop")?;
+    looped(rt, &[1, 1, 0])?;
+    name(rt, b"loop edges, off")?;
+    looped(rt, &[1, 0, 1])?;
+    name(rt, b"side 1, empty")?;
+    side_one(rt, &[0], &[0, 0])?;
+    name(rt, b"side 1, across line A")?;
+    side_one(rt, &[0], &[1, 0])?;
+    name(rt, b"side 1, across line B")?;
+    side_one(rt, &[0], &[0, 1])?;
+    name(rt, b"side 1, across both")?;
+    side_one(rt, &[0], &[1, 1])?;
+    name(rt, b"side 1, lit")?;
+    side_one(rt, &[1], &[0, 0])
 }

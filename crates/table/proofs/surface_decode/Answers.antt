@@ -1,0 +1,8 @@
+-- The number is the packed answer of the definition; what it is taken apart into is what `decode` answered, with the buffers that it left.
+-- Assumes nothing.
+use borrow.Author.Rules.{rules}
+use Rattle.table.proofs.Exported.{decode_exported}
+use Rattle.table.proofs.surface_decode.Goals as goal
+
+pub returns : goal.returns
+returns c = let all = decode_exported c.pack_decoded.ensures (c.decode.ensures.key, c.decode.ensures.sound) in record { number = all.0; outcome = all.1.0; sound = all.1.1 }

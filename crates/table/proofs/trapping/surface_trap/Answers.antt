@@ -1,0 +1,8 @@
+-- The number is the packed answer of the definition; what it is taken apart into is what `trap` answered, with the buffer that it left.
+-- Assumes nothing.
+use borrow.Author.Rules.{rules}
+use Rattle.table.proofs.Exported.{trap_exported}
+use Rattle.table.proofs.trapping.surface_trap.Goals as goal
+
+pub returns : goal.returns
+returns c = let all = trap_exported c.pack_trap.ensures (c.trap.ensures.outcome, c.trap.ensures.sound) in record { number = all.0; outcome = all.1.0; sound = all.1.1 }
