@@ -145,11 +145,11 @@ static inline const char *surface_refusal_text(unsigned number)
 /* Bytes of the thread's stack that each call needs: what was measured, rounded up to a multiple of
  * 4,096, and 4,096 more for memcpy and memset, all that the library asks of the C library. The calls
  * of one thread don't nest, so the largest of those that it makes is enough. */
-#define SURFACE_STACK_DECODE 57344
-#define SURFACE_STACK_DECODE_ROUNDS 57344
-#define SURFACE_STACK_DECODE_PACKED 61440
-#define SURFACE_STACK_VERDICT 65536
-#define SURFACE_STACK_FACES 73728
+#define SURFACE_STACK_DECODE 86016
+#define SURFACE_STACK_DECODE_ROUNDS 86016
+#define SURFACE_STACK_DECODE_PACKED 90112
+#define SURFACE_STACK_VERDICT 94208
+#define SURFACE_STACK_FACES 102400
 #define SURFACE_STACK_DISTANCE 69632
 #define SURFACE_STACK_TORUS 8192
 #define SURFACE_STACK_PLANAR 8192
@@ -161,7 +161,7 @@ static inline const char *surface_refusal_text(unsigned number)
 #define SURFACE_STACK_LIT_TOTAL 8192
 #define SURFACE_STACK_LIST_LIT 8192
 #define SURFACE_STACK_GAME 8192
-#define SURFACE_STACK_TRAP 73728
+#define SURFACE_STACK_TRAP 90112
 
 /* Decodes. Fills `support` with 0 to 2 half-edges and `correction` with 0 or 1, a byte for each edge.
  * The correction has the syndrome, and may end at open vertices, which have none.
