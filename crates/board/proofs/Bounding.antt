@@ -6,7 +6,6 @@ use mathlib.Core.Bool.{Bool, true, false, ◌&&◌}
 use mathlib.Core.List.{List}
 use mathlib.Core.Option.{none}
 use native.Mathlib.Omega.{arith}
-use borrow.Author.Count.{below_more}
 use borrow.Author.Tests.{le-ltb, lt-leb, eqb-true, ne_eqb}
 use lib.ListN.{length}
 use lib.Dec.{eqb, leb}
@@ -15,18 +14,6 @@ use Rattle.model.specs.Refusals.{above, outside, lit_open, edges_of}
 use Rattle.model.specs.Sums.{first_up_to, ones}
 use Rattle.model.proofs.SumLaws.{first_none}
 use Rattle.board.specs.Bounds.{Bounded, entry, lesser}
-
-pub bounded_none : (f : ℕ → ℕ) (top : ℕ) → Bounded 0 f top
-bounded_none f top = record { within = λ i h. omega arith }
-
--- the next bound is at least the one so far and at least the next value
-pub bounded_more : {i : ℕ} {f : ℕ → ℕ} {top next : ℕ} → Bounded i f top → top ≤ next → f i ≤ next → Bounded (i + 1) f next
-bounded_more {i} {f} {top} {next} b p q =
-    record { within = below_more (λ k. f k ≤ next) i (λ k h. omega (arith, b.within k h)) q }
-
--- the pass is over
-pub bounded_whole : (n : ℕ) {i : ℕ} {f : ℕ → ℕ} {top : ℕ} → Bounded i f top → n ≤ i → Bounded n f top
-bounded_whole n b p = record { within = λ k h. b.within k (omega arith) }
 
 -- no byte is above the limit
 pub none_above : (l : List ℕ) {limit top : ℕ} → Bounded (length l) (entry l) top → top ≤ limit → none ≡ first_up_to (length l) (above limit l)

@@ -3,23 +3,19 @@
 use Prim.Native.Nat.{ℕ, ◌≤◌}
 use mathlib.Core.Path.{◌≡◌, sym, ◌∙◌}
 use mathlib.Core.Bool.{Bool, ◌&&◌}
-use mathlib.Core.List.{List, ◌∷◌, ◌++◌}
+use mathlib.Core.List.{List, ◌∷◌}
 use mathlib.Core.Option.{none}
 use native.Mathlib.Omega.{arith}
 use lib.ListN.{length}
+use Rattle.std.proofs.lemmas.Bool.{and_from}
 use Rattle.model.specs.Sums.{or_else}
 use Rattle.model.specs.Board.{Board, Sheet, Valid, ValidBytes, ValidSheet, edges, edge_limit}
-use Rattle.model.specs.Refusals.{Rule, refusal_of, edges_of, sized, plain_rules, sheet_rules, open_rules, handed_rule, decode_refusal, verdict_refusal, distance_refusal}
-use Rattle.model.proofs.Xor.{and_left, and_right, and_both}
+use Rattle.model.specs.Refusals.{refusal_of, edges_of, sized, plain_rules, open_rules, handed_rule, decode_refusal, verdict_refusal, distance_refusal}
+use Rattle.model.proofs.Xor.{and_left, and_right}
 use Rattle.model.proofs.RuleLists.{refusal_append}
 use Rattle.board.proofs.Failures.{neither_fails, each_passes, passes_each}
 use Rattle.board.proofs.Passing.{bytes_say, say_bytes}
 use Rattle.board.proofs.Validity.{plain_passes, passes_plain, plain_open, valid_plain, valid_open, sheet_passes, passes_sheet, whole_passes, passes_whole, long_enough, enough_long}
-
--- a sheet's tests, and then others
-pub sheet_then : (X : Sheet) (others : Bool) (rs : List Rule)
-    → refusal_of (sheet_rules X others ++ rs) ≡ or_else (refusal_of (sheet_rules X others)) (refusal_of rs)
-sheet_then X others rs = refusal_append (sheet_rules X others) rs
 
 -- Decoding: a valid sheet and two buffers with a byte for each edge.
 pub record ForDecoding (X : Sheet) (support correction : List ℕ) : Type 0 where
@@ -45,7 +41,7 @@ passes_decode X support correction w =
     passes_sheet X _
     (record {
       sheet = w.sheet;
-      fit = and_both _ _ (enough_long X.board support v w.support_long) (enough_long X.board correction v w.correction_long);
+      fit = and_from _ _ (enough_long X.board support v w.support_long) (enough_long X.board correction v w.correction_long);
     })
 
 -- The verdict: a valid sheet and a handed-in set.

@@ -5,8 +5,9 @@ use mathlib.Core.Option.{none, some, some-ne-none}
 use Rattle.model.specs.declared.refusal.Refusal.{Refusal}
 use Rattle.model.specs.Sums.{or_else}
 use Rattle.model.specs.Refusals.{Rule, Test, tested, first_failure, refusal_of}
-use Rattle.board.specs.declared.outcome.Check.{Check}
-use Rattle.board.specs.declared.outcome.Check.TheVariants.{Passed, Failed}
+use Rattle.std.specs.Prelude.{Result, Ok, Err}
+use Rattle.std.specs.Result.{IsErrAnd}
+use Rattle.std.proofs.lemmas.Result.{err_from_is_err_and}
 use Rattle.board.specs.Checks.{test_of}
 
 pub neither_fails : (t u : Test) → or_else t u ≡ none → (t ≡ none) × (u ≡ none)
@@ -31,22 +32,27 @@ passes_each [] e = refl
 passes_each (R ∷ rs) e = rw e.0 (passes_each rs e.1)
 
 -- Two checks after each other: the first, which answers r, refuses, or it passes and the second decides.
-pub refuses : (t u : Test) (r : Check) {n : Refusal} → test_of r ≡ t → r ≡ Failed n → or_else t u ≡ some n
+pub refuses : (t u : Test) (r : Result Unit Refusal) {n : Refusal} → test_of r ≡ t → r ≡ Err n → or_else t u ≡ some n
 refuses t u r e g = rw (← e, g)
 
-pub passes_on : (t u : Test) (r : Check) → test_of r ≡ t → r ≡ Passed → or_else t u ≡ u
+-- .. as `?` hands its refusal on: the answer is a refusal too, the same
+pub hands_on : {A : Type 0} (t u : Test) (r : Result Unit Refusal) (s : Result A Refusal) {n : Refusal}
+    → test_of r ≡ t → r ≡ Err n → IsErrAnd s (λ m. m ≡ n) → (s ≡ Err n) × (or_else t u ≡ some n)
+hands_on t u r s e g q = let p = err_from_is_err_and s q in (p.1 ∙ ap Err p.2, refuses t u r e g)
+
+pub passes_on : (t u : Test) (r : Result Unit Refusal) → test_of r ≡ t → r ≡ Ok tt → or_else t u ≡ u
 passes_on t u r e g = rw (← e, g)
 
-pub passed : (t : Test) (r : Check) → test_of r ≡ t → r ≡ Passed → t ≡ none
+pub passed : (t : Test) (r : Result Unit Refusal) → test_of r ≡ t → r ≡ Ok tt → t ≡ none
 passed t r e g = rw (← e, g)
 
 -- The same of one rule and those after it.
-pub refuses_first : (R : Rule) (rs : List Rule) (r : Check) {n : Refusal} → test_of r ≡ refusal_of (R ∷ []) → r ≡ Failed n → refusal_of (R ∷ rs) ≡ some n
+pub refuses_first : (R : Rule) (rs : List Rule) (r : Result Unit Refusal) {n : Refusal} → test_of r ≡ refusal_of (R ∷ []) → r ≡ Err n → refusal_of (R ∷ rs) ≡ some n
 refuses_first R rs r {n} e g = go (tested R) (sym (ap test_of g) ∙ e)
   where
     go : (t : Test) → some n ≡ first_failure (t ∷ []) → first_failure (t ∷ map tested rs) ≡ some n
     go none q = absurd (some-ne-none n q)
     go (some k) q = sym q
 
-pub passes_first : (R : Rule) (rs : List Rule) (r : Check) → test_of r ≡ refusal_of (R ∷ []) → r ≡ Passed → refusal_of (R ∷ rs) ≡ refusal_of rs
+pub passes_first : (R : Rule) (rs : List Rule) (r : Result Unit Refusal) → test_of r ≡ refusal_of (R ∷ []) → r ≡ Ok tt → refusal_of (R ∷ rs) ≡ refusal_of rs
 passes_first R rs r e g = rw (each_passes (R ∷ []) (passed _ r e g)).0

@@ -3,8 +3,7 @@
 use Prim.Native.Nat.{ℕ, ◌≤◌}
 use mathlib.Core.Path.{◌≡◌, ap, ◌∙◌}
 use mathlib.Core.List.{List, ◌++◌}
-use native.Mathlib.Omega.{arith}
-use lib.ListN.{length, take, drop, length-append, length-drop}
+use lib.ListN.{length, take, drop}
 use lib.Seq.{length-take-le, take_at}
 use Rattle.model.specs.Sums.{Set, bit, bytes}
 use Rattle.model.specs.Board.{ValidBytes}
@@ -16,9 +15,6 @@ module _ (m : ℕ) (D : Set) (array filled : List ℕ) (room : m ≤ length arra
 
   filled_long : length filled ≡ m
   filled_long = ap length filled_is ∙ length_values m (λ i. bit (D i))
-
-  pub array_long : length (filled ++ drop m array) ≡ length array
-  array_long = rw (length-append, length-drop) (omega (arith, filled_long))
 
   pub front_filled : take m (filled ++ drop m array) ≡ bytes m D
   front_filled = take_at filled (drop m array) m filled_long ∙ filled_is

@@ -1,16 +1,13 @@
 -- The items of a mask as bytes, stored one after the other. Assumes nothing.
-use Prim.Native.Nat.{ℕ, ◌+◌, ◌<◌}
-use mathlib.Core.Path.{◌≡◌, refl, ◌∙◌}
+use Prim.Native.Nat.{ℕ, ◌<◌}
+use mathlib.Core.Path.{◌≡◌, refl}
 use mathlib.Core.Bool.{Bool, true, false}
 use mathlib.Core.List.{List}
-use native.Mathlib.Nat.{not-suc-le-zero}
 use native.Mathlib.Omega.{arith}
-use lib.ListN.{length, get_or, set, length-set}
-use lib.Seq.{get_or-set_same, get_or-set_other}
+use lib.ListN.{length, get_or}
 use mir.Val.{bool_byte}
 use Rattle.model.specs.Sums.{bit, bytes}
 use Rattle.model.specs.Words.{bit_of}
-use Rattle.model.proofs.SumLaws.{below_suc}
 use Rattle.model.proofs.ListLaws.{values_are}
 
 -- a truth value cast to a number
@@ -22,18 +19,6 @@ cast_bit false = refl
 pub record SpreadTo (mask n k : ℕ) (l : List ℕ) : Type 0 where
   pub long : length l ≡ n
   pub at : (i : ℕ) → i < k → get_or l i 0 ≡ bit (bit_of mask i)
-
-pub spread_none : (mask : ℕ) (l : List ℕ) → SpreadTo mask (length l) 0 l
-spread_none mask l = record { long = refl; at = λ i h. absurd (not-suc-le-zero h) }
-
-pub spread_more : {mask n i x : ℕ} {l : List ℕ} → x ≡ bit (bit_of mask i) → i < n → SpreadTo mask n i l → SpreadTo mask n (i + 1) (set l i x)
-spread_more {mask} {n} {i} {x} {l} is room s =
-    record {
-      long = length-set l i x ∙ s.long;
-      at = λ j h. below_suc i j (omega arith)
-          (λ less. get_or-set_other l i j x 0 (λ q. omega arith) ∙ s.at j less)
-          (λ last. rw last (get_or-set_same l i x 0 (omega (arith, s.long)) ∙ is));
-    }
 
 -- all items are spread
 pub spread_all : {mask n i : ℕ} {l : List ℕ} → i ≡ n → SpreadTo mask n i l → l ≡ bytes n (bit_of mask)

@@ -1,19 +1,20 @@
 -- What passes the tests is valid and has its length, and the reverse. Assumes nothing.
 use Prim.Native.Nat.{ℕ, ◌*◌, ◌%◌, ◌≤◌, ◌<◌}
 use mathlib.Core.Path.{◌≡◌, refl}
-use mathlib.Core.Bool.{Bool, true, false, ◌&&◌, ◌||◌, true≢false}
+use mathlib.Core.Bool.{Bool, true, false, ◌&&◌}
 use mathlib.Core.List.{List}
 use mathlib.Core.Option.{Option, none, some, some-ne-none}
 use native.Mathlib.Omega.{arith}
 use borrow.Author.Tests.{leb-true, leb-false, ltb-false, eqb-true, le-leb, lt-leb, le-ltb, eq-eqb}
 use lib.ListN.{length}
 use lib.Dec.{eqb, leb}
+use Rattle.std.proofs.lemmas.Bool.{and_from, or_parts, or_from}
 use Rattle.model.specs.declared.refusal.Refusal.{Refusal}
 use Rattle.model.specs.declared.refusal.Refusal.TheVariants.{VertexCount, EndCount, BufferLength, EndRange, MarkRange}
 use Rattle.model.specs.Sums.{Set, ones, first_up_to}
 use Rattle.model.specs.Board.{Board, Inside, Valid, ValidBytes, Unlit, Sheet, edges, first_end, mark, is_open, vertex_limit, edge_limit}
 use Rattle.model.specs.Refusals.{unless, refused_at, first_place, outside, above, lit_open, sized, edges_of, board_sized, count_rules, edge_rules, open_rules}
-use Rattle.model.proofs.Xor.{and_left, and_right, and_both}
+use Rattle.model.proofs.Xor.{and_left, and_right}
 use Rattle.model.proofs.RuleLists.{unless_passes}
 use Rattle.model.proofs.SumLaws.{first_none, none_first}
 use Rattle.board.proofs.Failures.{Each}
@@ -32,17 +33,6 @@ place_passes n f at p = none_first n f (nowhere (first_up_to n f) p)
 
 pub passes_place : (n : ℕ) (f : Set) (at : ℕ → Refusal) → ((i : ℕ) → i < n → f i ≡ false) → first_place n f at ≡ none
 passes_place n f at out = rw (first_none n f out)
-
-or_left : (a b : Bool) → (a || b) ≡ false → a ≡ false
-or_left true b p = p
-or_left false b p = refl
-
-or_right : (a b : Bool) → (a || b) ≡ false → b ≡ false
-or_right true b p = absurd (true≢false p)
-or_right false b p = p
-
-neither : (a b : Bool) → a ≡ false → b ≡ false → (a || b) ≡ false
-neither a b p q = rw (p, q)
 
 -- what the tests 1 to 3 say
 pub record Counted (vertices : ℕ) (ends : List ℕ) (fit : Bool) : Type 0 where
@@ -66,9 +56,9 @@ counts_say vertices ends fit e =
 
 pub say_counts : (vertices : ℕ) (ends : List ℕ) (fit : Bool) → Counted vertices ends fit → Each (count_rules vertices ends fit)
 say_counts vertices ends fit k = (
-  passes_unless _ VertexCount (and_both _ _ (le-leb _ _ k.some_vertex) (le-leb _ _ k.vertices_limited)),
+  passes_unless _ VertexCount (and_from _ _ (le-leb _ _ k.some_vertex) (le-leb _ _ k.vertices_limited)),
   (
-    passes_unless _ EndCount (and_both _ _ (eq-eqb _ _ k.even) (le-leb _ _ k.end_limit)),
+    passes_unless _ EndCount (and_from _ _ (eq-eqb _ _ k.even) (le-leb _ _ k.end_limit)),
     (passes_unless fit BufferLength k.others, tt),
   ),
 )
@@ -101,8 +91,8 @@ edges_say B fit k sizes t =
             vertices_limited = k.vertices_limited;
             edges_limited = omega arith;
             two_ends = omega arith;
-            first_in_range = λ e h. leb-false _ _ (or_left (leb B.vertices (first_end B e)) _ (inside e h));
-            second_in_range = λ e h. leb-false _ _ (or_right (leb B.vertices (first_end B e)) _ (inside e h));
+            first_in_range = λ e h. leb-false _ _ (or_parts (leb B.vertices (first_end B e)) _ (inside e h)).0;
+            second_in_range = λ e h. leb-false _ _ (or_parts (leb B.vertices (first_end B e)) _ (inside e h)).1;
           };
       mark_in_range = λ e h. ltb-false _ _ (small e h);
       open_long = eqb-true _ _ (and_right (sized B.marks (edges_of B.ends)) _ sizes);
@@ -110,7 +100,7 @@ edges_say B fit k sizes t =
 
 pub say_edges : (B : Board) → Ranged B → Each (edge_rules B)
 say_edges B v = (
-  passes_place (edges B) (outside B) _ (λ e h. neither _ _ (lt-leb _ _ (v.inside.first_in_range e h)) (lt-leb _ _ (v.inside.second_in_range e h))),
+  passes_place (edges B) (outside B) _ (λ e h. or_from _ _ (lt-leb _ _ (v.inside.first_in_range e h)) (lt-leb _ _ (v.inside.second_in_range e h))),
   (passes_place (edges B) (above 3 B.marks) _ (λ e h. le-ltb _ _ (v.mark_in_range e h)), tt),
 )
 

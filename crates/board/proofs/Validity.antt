@@ -8,10 +8,11 @@ use mathlib.Core.Option.{none}
 use native.Mathlib.Omega.{arith}
 use borrow.Author.Tests.{eqb-true, eq-eqb}
 use lib.ListN.{length}
+use Rattle.std.proofs.lemmas.Bool.{and_from}
 use Rattle.model.specs.Sums.{or_else}
 use Rattle.model.specs.Board.{Board, Sheet, Inside, Valid, ValidBytes, ValidSheet, edges, vertex_limit, edge_limit}
 use Rattle.model.specs.Refusals.{Rule, refusal_of, edges_of, sized, board_sized, count_rules, edge_rules, board_rules, byte_rules, bytes_sized, plain_rules, open_rule, open_rules, sheet_rules, whole_rules}
-use Rattle.model.proofs.Xor.{and_left, and_right, and_both}
+use Rattle.model.proofs.Xor.{and_left, and_right}
 use Rattle.model.proofs.RuleLists.{refusal_append}
 use Rattle.board.proofs.Failures.{neither_fails, each_passes, passes_each}
 use Rattle.board.proofs.Passing.{Counted, counts_say, say_counts, Ranged, valid_ranged, ranged_valid, edges_say, say_edges, bytes_say, say_bytes, open_say, say_open}
@@ -67,8 +68,8 @@ board_passes B others p =
 
 pub passes_board : (B : Board) (others : Bool) → Boarded B others → refusal_of (board_rules B others) ≡ none
 passes_board B others w =
-    let sizes : board_sized B ≡ true = and_both _ _ (eq-eqb _ _ (marks_long B w.board.inside)) (eq-eqb _ _ w.board.open_long) in
-    let fits = and_both _ _ sizes w.fit in
+    let sizes : board_sized B ≡ true = and_from _ _ (eq-eqb _ _ (marks_long B w.board.inside)) (eq-eqb _ _ w.board.open_long) in
+    let fits = and_from _ _ sizes w.fit in
     board_tests B others
     ∙ rw (passes_each (board_counts B others) (say_counts B.vertices B.ends _ (counted B _ w.board fits)))
     (passes_each (edge_rules B) (say_edges B w.board))
@@ -159,7 +160,7 @@ passes_plain X others w =
     let lit : sized X.syndrome X.board.vertices ≡ true = eq-eqb _ _ w.syndrome.count in
     let lost = enough_long X.board X.loss w.board.inside w.loss.count in
     plain_tests X others
-    ∙ rw (passes_board X.board (bytes_sized X && others) (record { board = w.board; fit = and_both _ _ (and_both _ _ lit lost) w.fit }))
+    ∙ rw (passes_board X.board (bytes_sized X && others) (record { board = w.board; fit = and_from _ _ (and_from _ _ lit lost) w.fit }))
     (passes_each (byte_rules X.syndrome X.loss) (
       say_bytes _ X.syndrome _ w.syndrome,
       (say_bytes _ X.loss _ w.loss, tt),

@@ -1,30 +1,28 @@
 -- What the answers of the tests and of the passes stand for. Assumes nothing.
-use Rattle.std.specs.Prelude.{ℕ}
+use Rattle.std.specs.Prelude.{ℕ, Result, Ok, Err, Some, None}
+use Rattle.std.specs.Prelude as rust
 use Rattle.std.proofs.Math.Option.{Option, none, some}
+use Rattle.model.specs.declared.numbers.Edge.{Edge}
+use Rattle.model.specs.declared.numbers.Vertex.{Vertex}
+use Rattle.model.specs.declared.refusal.Refusal.{Refusal}
 use Rattle.model.specs.Refusals.{Test}
-use Rattle.board.specs.declared.bytes.Place.{Place}
-use Rattle.board.specs.declared.bytes.Place.TheVariants as place
-use Rattle.board.specs.declared.outcome.Check.{Check}
-use Rattle.board.specs.declared.outcome.Check.TheVariants.{Passed, Failed}
-use Rattle.board.specs.declared.outcome.FoundEdge.{FoundEdge}
-use Rattle.board.specs.declared.outcome.FoundEdge.TheVariants as edge
-use Rattle.board.specs.declared.outcome.FoundVertex.{FoundVertex}
-use Rattle.board.specs.declared.outcome.FoundVertex.TheVariants as vertex
 
 -- a test passes, or fails with its refusal
-abbrev pub test_of : Check → Test
-test_of Passed = none
-test_of (Failed n) = some n
+abbrev pub test_of : Result Unit Refusal → Test
+test_of (Ok u) = none
+test_of (Err n) = some n
 
--- the place, the edge or the vertex that a pass finds
-abbrev pub place_found : Place → Option ℕ
-place_found (place.At i) = some i
-place_found place.Nowhere = none
+-- the number of what a pass finds
+abbrev pub found : {A : Type 0} → (A → ℕ) → rust.Option A → Option ℕ
+found number (Some a) = some (number a)
+found number None = none
 
-abbrev pub edge_found : FoundEdge → Option ℕ
-edge_found (edge.At e) = some e.0
-edge_found edge.Nothing = none
+-- a number itself, and that of an edge, of a vertex
+abbrev pub number_found : rust.Option ℕ → Option ℕ
+number_found = found (λ n. n)
 
-abbrev pub vertex_found : FoundVertex → Option ℕ
-vertex_found (vertex.At v) = some v.0
-vertex_found vertex.Nothing = none
+abbrev pub edge_found : rust.Option Edge → Option ℕ
+edge_found = found (λ e. e.0)
+
+abbrev pub vertex_found : rust.Option Vertex → Option ℕ
+vertex_found = found (λ v. v.0)

@@ -7,12 +7,10 @@ pub fn count(bytes: &[u8], value: u8) -> usize
     ensures { result ≡ count_up_to (length bytes.now) (λ i. eqb (get_or bytes.now i 0) value) }
 {
     let mut total = 0;
-    let mut i = 0;
-    while i < bytes.len() {
-        if bytes[i] == value {
+    for &byte in bytes {
+        if byte == value {
             total += 1;
         }
-        i += 1;
     }
     total
 }

@@ -5,38 +5,33 @@ ghost use Rattle.model.specs.Sums.{first_up_to};
 ghost use Rattle.board.specs.Checks.{edge_found};
 
 use crate::largest::largest_end;
-use crate::outcome::FoundEdge;
 use model::ends::{first_end, second_end};
 use model::numbers::Edge;
 
 // Test 4: the first edge that has an end at or above the vertex count.
-pub fn first_outside(vertices: usize, ends: &[u16]) -> FoundEdge
+pub fn first_outside(vertices: usize, ends: &[u16]) -> Option<Edge>
     requires { length ends.now ≤ 2 * edge_limit }
     ensures { edge_found result ≡ first_up_to (edges_of ends.now) (outside (plain vertices 0 ends.now)) }
 {
     let top = largest_end(ends);
     if (top as usize) < vertices {
-        return FoundEdge::Nothing;
+        return None;
     }
     edge_outside(vertices, ends)
 }
 
 // The same, by a look at each edge until one has such an end.
-fn edge_outside(vertices: usize, ends: &[u16]) -> FoundEdge
+fn edge_outside(vertices: usize, ends: &[u16]) -> Option<Edge>
     requires { length ends.now ≤ 2 * edge_limit }
     ensures { edge_found result ≡ first_up_to (edges_of ends.now) (outside (plain vertices 0 ends.now)) }
 {
-    let edges = ends.len() / 2;
-    let mut e = 0;
-    while e < edges {
-        let number = e as u16;
-        let edge = Edge(number);
+    for e in 0..ends.len() / 2 {
+        let edge = Edge(e as u16);
         let first = first_end(ends, edge);
         let second = second_end(ends, edge);
         if first.0 as usize >= vertices || second.0 as usize >= vertices {
-            return FoundEdge::At(edge);
+            return Some(edge);
         }
-        e += 1;
     }
-    FoundEdge::Nothing
+    None
 }

@@ -7,28 +7,14 @@ ghost use Rattle.board.specs.Bounds.{Bounded, entry, lesser};
 pub fn largest_byte(bytes: &[u8]) -> u8
     ensures { Bounded (length bytes.now) (entry bytes.now) result }
 {
-    let mut top = 0;
-    let mut i = 0;
-    while i < bytes.len() {
-        let byte = bytes[i];
-        top = if byte > top { byte } else { top };
-        i += 1;
-    }
-    top
+    bytes.iter().copied().max().unwrap_or(0)
 }
 
 // The largest end, or 0 of none.
 pub fn largest_end(ends: &[u16]) -> u16
     ensures { Bounded (length ends.now) (entry ends.now) result }
 {
-    let mut top = 0;
-    let mut i = 0;
-    while i < ends.len() {
-        let end = ends[i];
-        top = if end > top { end } else { top };
-        i += 1;
-    }
-    top
+    ends.iter().copied().max().unwrap_or(0)
 }
 
 // The largest over all vertices of the lesser of two bytes: 0 where no vertex has both.
@@ -36,14 +22,9 @@ pub fn largest_lesser(bytes: &[u8], others: &[u8]) -> u8
     requires { length others.now ≡ length bytes.now }
     ensures { Bounded (length bytes.now) (lesser bytes.now others.now) result }
 {
-    let mut top = 0;
-    let mut i = 0;
-    while i < bytes.len() {
-        let byte = bytes[i];
-        let other = others[i];
-        let low = if byte < other { byte } else { other };
-        top = if low > top { low } else { top };
-        i += 1;
-    }
-    top
+    let lesser = bytes
+        .iter()
+        .zip(others)
+        .map(|(&byte, &other)| byte.min(other));
+    lesser.max().unwrap_or(0)
 }

@@ -11,5 +11,4 @@ pub mod incidence;
 pub mod largest;
 pub mod masks;
 pub mod opened;
-pub mod outcome;
 pub mod tests;

@@ -24,9 +24,7 @@ pub fn spread(mask: usize, filled: &mut [u8])
     requires { length filled.old ≤ 64 }
     ensures { filled.new ≡ bytes (length filled.old) (bit_of mask) }
 {
-    let mut i = 0;
-    while i < filled.len() {
-        filled[i] = has(mask, i) as u8;
-        i += 1;
+    for (i, byte) in filled.iter_mut().enumerate() {
+        *byte = has(mask, i) as u8;
     }
 }

@@ -13,6 +13,7 @@ fn read_full(input: &mut Stdin, text: &mut [u8]) -> usize
     ensures { result ≤ length text.new }
 {
     let mut done = 0;
+    // No index is counted: each read says how many bytes it gave. `read_exact` doesn't say how many there were where the input ends early.
     while done < text.len() {
         match input.read(&mut text[done..]) {
             Ok(0) | Err(_) => break,

@@ -10,18 +10,17 @@ use native.Mathlib.Nat.{le_refl, not-suc-le-zero}
 use native.Mathlib.Omega.{arith}
 use borrow.Author.Tests.{lt-ltb, le-ltb}
 use lib.Dec.{ltb}
-use lib.ListN.{length}
+use Rattle.std.proofs.lemmas.Bool.{false_from_ne_true}
 use Rattle.model.specs.Sums.{Set}
 use Rattle.model.specs.Board.{Board, Inside, vertex_limit}
 use Rattle.model.specs.Components.{label, within}
 use Rattle.model.specs.Growth.{full, clusters, oddly_lit, holds_open, odd, exposed, boundary, better, choice_up_to, choice}
 use Rattle.model.proofs.Contradiction.{zero_one}
 use Rattle.model.proofs.SumLaws.{below_suc, count_bound}
-use Rattle.model.proofs.Xor.{not_true_false}
 use Rattle.theory.proofs.WeightedGrowth.{odd_named}
 use Rattle.union_find.specs.Trees.{at}
 use Rattle.decoder.specs.Figures.{even_mark, odd_figure, Leads, Figured}
-use Rattle.decoder.specs.Choices.{lesser, least_up_to, Choosable}
+use Rattle.decoder.specs.Choices.{lesser, least_up_to}
 use Rattle.decoder.proofs.FigureLaws.{figure_odd, figure_size, figure_is_size}
 
 -- The first of the least
@@ -113,15 +112,6 @@ least_choice B s l S (suc a) = rw (least_choice B s l S a) (go (choice_up_to B s
 -- What the figures say
 
 module _ (B : Board) (S : Set) (s l figure : List ℕ) (few : B.vertices ≤ vertex_limit) (w : Figured B S s l figure) where
-  -- a number that is no vertex names no cluster
-  pub figures_choosable : length figure ≡ vertex_limit → Choosable B.vertices figure
-  figures_choosable long =
-      record {
-        few = few;
-        long = long;
-        past = λ a p q. omega (arith, w.kept.others a q (λ lead. absurd (omega (arith, p, lead.below))));
-      }
-
   boundary_small : (a : ℕ) → boundary B s l a < even_mark
   unfolding boundary
   boundary_small a = omega (arith, count_bound B.vertices (λ v. within l a v && exposed B s v))
@@ -154,7 +144,7 @@ module _ (B : Board) (S : Set) (s figure : List ℕ) (few : B.vertices ≤ verte
     | yes q ↦ kept_odd B S s own figure few w a (record { below = h; own = q })
     | no q ↦
         le-ltb (at figure a) even_mark (omega (arith, w.kept.others a (omega arith) (λ lead. q lead.own)))
-        ∙ sym (not_true_false (odd B own S a) (λ p. q (leads_odd a h p).own))
+        ∙ sym (false_from_ne_true (odd B own S a) (λ p. q (leads_odd a h p).own))
   ]
 
   pub figures_choose : least_up_to B.vertices (odd_figure figure) (at figure) ≡ choice B s own S

@@ -1,17 +1,17 @@
 -- The choice in blocks: the smallest figure of each block, the first block with the smallest of these, and the first number in it by which
 -- that figure stands. Assumes nothing.
 use Prim.Native.Nat.{ℕ, ◌+◌, ◌%◌, ◌≤◌, ◌<◌}
-use mathlib.Core.Path.{◌≡◌, refl}
+use mathlib.Core.Path.{◌≡◌}
 use mathlib.Core.List.{List}
 use mathlib.Core.Option.{none, some}
-use native.Mathlib.Decide.{ℕ_discrete, dec_lt}
+use native.Mathlib.Decide.{dec_lt}
 use native.Mathlib.Nat.{le_refl}
 use native.Mathlib.Omega.{arith}
 use borrow.Author.Tests.{lt-ltb, le-ltb}
 use Rattle.model.specs.Board.{vertex_limit}
 use Rattle.union_find.specs.Trees.{at}
 use Rattle.decoder.specs.Figures.{even_mark, odd_figure}
-use Rattle.decoder.specs.Choices.{least_up_to, Choosable, block_length, Block, Stands, Smallest, Searchable, FirstEqual}
+use Rattle.decoder.specs.Choices.{least_up_to, Choosable, block_length, Block, Stands, Smallest, FirstEqual}
 use Rattle.decoder.proofs.ChoiceLaws.{least_none, least_first}
 
 stands_wider : (figure : List ℕ) (from to x limit : ℕ) → to ≤ limit → Stands figure from to x → Stands figure from limit x
@@ -26,38 +26,6 @@ pub record SmallestYet (figure : List ℕ) (from i least : ℕ) : Type 0 where
   pub lower : (a : ℕ) → from ≤ a → a < from + i → least ≤ at figure a
   pub stands : Stands figure from (from + block_length) least
 
-pub smallest_begins : (figure : List ℕ) (from : ℕ) → SmallestYet figure from 0 (at figure from)
-smallest_begins figure from =
-    record {
-      inside = omega arith;
-      lower = λ a p q. absurd (omega arith);
-      stands = record { place = from; not_before = omega arith; below = omega arith; there = refl };
-    }
-
-module _ (figure : List ℕ) (from i least : ℕ) (h : i < block_length) (w : SmallestYet figure from i least) where
-  lower_still : (x : ℕ) → x ≤ least → x ≤ at figure (from + i) → (a : ℕ) → from ≤ a → a < from + (i + 1) → x ≤ at figure a
-  lower_still x l m a p q = elim (ℕ_discrete a (from + i)) [
-    | yes r ↦ rw r m
-    | no r ↦ omega (arith, w.lower a p (omega (arith, r)))
-  ]
-
-  -- the next figure is smaller
-  pub smallest_taken : at figure (from + i) < least → SmallestYet figure from (i + 1) (at figure (from + i))
-  smallest_taken l =
-      record {
-        inside = omega (arith, h);
-        lower = lower_still _ (omega arith) (le_refl _);
-        stands = record { place = from + i; not_before = omega arith; below = omega arith; there = refl };
-      }
-
-  -- the next figure is not
-  pub smallest_kept : least ≤ at figure (from + i) → SmallestYet figure from (i + 1) least
-  smallest_kept l = record { inside = omega (arith, h); lower = lower_still _ (le_refl _) l; stands = w.stands }
-
-pub smallest_ends : (figure : List ℕ) (from i least : ℕ) → block_length ≤ i → SmallestYet figure from i least
-    → Smallest figure from (from + block_length) least
-smallest_ends figure from i least h w = record { least = λ a p q. w.lower a p (omega arith); stands = w.stands }
-
 -- The first number with a figure
 
 -- the figure x stands by a number from a on, and by none between `from` and a
@@ -65,30 +33,6 @@ pub record Searched (figure : List ℕ) (from x a : ℕ) : Type 0 where
   pub not_before : from ≤ a
   pub stands : Stands figure a vertex_limit x
   pub none_yet : (b : ℕ) → from ≤ b → b < a → at figure b ≡ x → ⊥
-
-pub search_begins : (figure : List ℕ) (from x : ℕ) → Searchable figure from x → Searched figure from x from
-search_begins figure from x w = record { not_before = le_refl _; stands = w.stands; none_yet = λ b p q. absurd (omega arith) }
-
-module _ (figure : List ℕ) (from x a : ℕ) (w : Searched figure from x a) where
-  search_inside : a < vertex_limit
-  search_inside = omega (arith, w.stands.not_before, w.stands.below)
-
-  pub search_goes_on : (at figure a ≡ x → ⊥) → Searched figure from x (a + 1)
-  search_goes_on h =
-      record {
-        not_before = omega (arith, w.not_before);
-        stands = further w.stands;
-        none_yet = λ b p q. elim (ℕ_discrete b a) [ yes r ↦ rw r h | no r ↦ w.none_yet b p (omega (arith, r)) ];
-      }
-    where
-      further : Stands figure a vertex_limit x → Stands figure (a + 1) vertex_limit x
-      further s = elim (ℕ_discrete s.place a) [
-        | yes r ↦ absurd (h (rw r at s.there))
-        | no r ↦ record { place = s.place; not_before = omega (arith, r, s.not_before); below = s.below; there = s.there }
-      ]
-
-  pub search_ends : at figure a ≡ x → FirstEqual figure from x a
-  search_ends h = record { not_before = w.not_before; below = search_inside; there = h; first = w.none_yet }
 
 -- The first block with the smallest figure
 
@@ -102,16 +46,11 @@ pub record BestYet (figure : List ℕ) (from least block : ℕ) : Type 0 where
   pub earlier : (a : ℕ) → a < block → least < at figure a
   pub stands : least < even_mark → Stands figure block from least
 
-pub best_begins : (figure : List ℕ) → BestYet figure 0 even_mark 0
-best_begins figure =
-    record {
-      whole = refl;
-      inside = omega arith;
-      small = le_refl _;
-      lower = λ a p. absurd (omega arith);
-      earlier = λ a p. absurd (omega arith);
-      stands = λ p. absurd (omega arith);
-    }
+-- no block is left
+pub record Looked (n : ℕ) (figure : List ℕ) (least block : ℕ) : Type 0 where
+  pub from : ℕ
+  pub all : n ≤ from
+  pub best : BestYet figure from least block
 
 module _ (n : ℕ) (figure : List ℕ) (c : Choosable n figure) (from least block : ℕ) (w : BestYet figure from least block) where
   module _ (h : from < n) where
@@ -159,9 +98,6 @@ module _ (n : ℕ) (figure : List ℕ) (c : Choosable n figure) (from least bloc
     module _ (odd : least ≡ even_mark → ⊥) where
       below_even : least < even_mark
       below_even = omega (arith, odd, w.small)
-
-      pub best_searchable : Searchable figure block least
-      best_searchable = record { long = c.long; stands = stands_wider figure block from least vertex_limit w.inside (w.stands below_even) }
 
       -- the first number in the block with the least figure
       module _ (r : ℕ) (f : FirstEqual figure block least r) where

@@ -6,10 +6,6 @@ use mathlib.Core.Path.{◌≡◌, refl, ap, ◌∙◌, subst}
 use mathlib.Core.List.{List}
 use mathlib.Core.Option.{none, some}
 use Rattle.model.specs.declared.refusal.Refusal.{Refusal}
-use Rattle.model.specs.declared.answers.Decoded.{Decoded}
-use Rattle.model.specs.declared.answers.Decoded.TheVariants as decoded
-use Rattle.model.specs.declared.answers.RoundsDecoded.{RoundsDecoded}
-use Rattle.model.specs.declared.answers.RoundsDecoded.TheVariants as inRounds
 use Rattle.model.specs.Board.{Sheet}
 use Rattle.model.specs.Growth.{weighted}
 use Rattle.model.specs.Rounds.{all_odd}
@@ -19,18 +15,18 @@ use Rattle.model.specs.RoundsOutcomes.{rounds_or, rounds_or_none, rounds_answer,
 use Rattle.board.proofs.Calls.{decode_passes}
 use Rattle.theory.proofs.Demand3.{decodes_demand3}
 use Rattle.theory.proofs.SoundRounds.{rounds_sound}
-use Rattle.decoder.specs.declared.key.Solved.{Solved}
-use Rattle.decoder.specs.declared.key.Solved.TheVariants.{Key, Refused}
-use Rattle.decoder.specs.Keys.{solved_or, solved_or_none, Solves}
+use Rattle.decoder.specs.Keys.{solved_or, solved_or_none, Solves, Solving}
+use Rattle.model.specs.Answers.{Decoded, RoundsDecoded, key_with, rounds_with}
+use Rattle.std.specs.Prelude.{Ok, Err}
 
 -- another name for each case of an answer
-abbrev as_decoded : Solved → Decoded
-as_decoded (Key g k) = decoded.Key g k
-as_decoded (Refused n) = decoded.Refused n
+abbrev as_decoded : Solving → Decoded
+as_decoded (Ok k) = key_with k.count k.edges
+as_decoded (Err n) = Err n
 
-abbrev as_rounds : Solved → RoundsDecoded
-as_rounds (Key g k) = inRounds.RoundsKey g k
-as_rounds (Refused n) = inRounds.Refused n
+abbrev as_rounds : Solving → RoundsDecoded
+as_rounds (Ok k) = rounds_with k.count k.edges
+as_rounds (Err n) = Err n
 
 -- a function that keeps refusals goes past the test
 past : {A C : Type 0} (f : A → C) (refused : Refusal → A) (refused' : Refusal → C) → ((n : Refusal) → f (refused n) ≡ refused' n) → (t : Test) (a : A)
@@ -56,13 +52,13 @@ module _ (X : Sheet) (support correction support' correction' : List ℕ) where
 
   -- Weighted growth
 
-  decoded_is : as_decoded (answer (decode_refusal X support correction) Refused (solved_or_none weighted X)) ≡ decode_answer X support correction
+  decoded_is : as_decoded (answer (decode_refusal X support correction) Err (solved_or_none weighted X)) ≡ decode_answer X support correction
   unfolding solved_or_none decode_answer key_or_none
   decoded_is =
-      past as_decoded Refused decoded.Refused (λ n. refl) (decode_refusal X support correction) (solved_or_none weighted X)
-      ∙ ap (answer (decode_refusal X support correction) decoded.Refused) (past as_decoded Refused decoded.Refused (λ n. refl) (odd_part_test X) _)
+      past as_decoded Err Err (λ n. refl) (decode_refusal X support correction) (solved_or_none weighted X)
+      ∙ ap (answer (decode_refusal X support correction) Err) (past as_decoded Err Err (λ n. refl) (odd_part_test X) _)
 
-  pub decodes : {r y : Solved} → r ≡ y → Solves weighted X support correction r support' correction' → DecodePromises (as_decoded y)
+  pub decodes : {r y : Solving} → r ≡ y → Solves weighted X support correction r support' correction' → DecodePromises (as_decoded y)
   decodes {r} {y} p w =
       let s = subst (λ z. Solves weighted X support correction z support' correction') p w in
       decode_promises
@@ -72,19 +68,19 @@ module _ (X : Sheet) (support correction support' correction' : List ℕ) where
         correction_bytes = s.correction_bytes ∙ left y _ _;
       })
     where
-      left : (y : Solved) (new old : List ℕ) → solved_or y new old ≡ key_or (as_decoded y) new old
-      left (Key g k) new old = refl
-      left (Refused n) new old = refl
+      left : (y : Solving) (new old : List ℕ) → solved_or y new old ≡ key_or (as_decoded y) new old
+      left (Ok k) new old = refl
+      left (Err n) new old = refl
 
   -- Rounds
 
-  rounds_are : as_rounds (answer (decode_refusal X support correction) Refused (solved_or_none all_odd X)) ≡ rounds_answer X support correction
+  rounds_are : as_rounds (answer (decode_refusal X support correction) Err (solved_or_none all_odd X)) ≡ rounds_answer X support correction
   unfolding solved_or_none rounds_answer rounds_or_none
   rounds_are =
-      past as_rounds Refused inRounds.Refused (λ n. refl) (decode_refusal X support correction) (solved_or_none all_odd X)
-      ∙ ap (answer (decode_refusal X support correction) inRounds.Refused) (past as_rounds Refused inRounds.Refused (λ n. refl) (odd_part_test X) _)
+      past as_rounds Err Err (λ n. refl) (decode_refusal X support correction) (solved_or_none all_odd X)
+      ∙ ap (answer (decode_refusal X support correction) Err) (past as_rounds Err Err (λ n. refl) (odd_part_test X) _)
 
-  pub decodes_in_rounds : {r y : Solved} → r ≡ y → Solves all_odd X support correction r support' correction' → RoundsPromises (as_rounds y)
+  pub decodes_in_rounds : {r y : Solving} → r ≡ y → Solves all_odd X support correction r support' correction' → RoundsPromises (as_rounds y)
   decodes_in_rounds {r} {y} p w =
       let s = subst (λ z. Solves all_odd X support correction z support' correction') p w in
       rounds_promises
@@ -94,6 +90,6 @@ module _ (X : Sheet) (support correction support' correction' : List ℕ) where
         correction_bytes = s.correction_bytes ∙ left y _ _;
       })
     where
-      left : (y : Solved) (new old : List ℕ) → solved_or y new old ≡ rounds_or (as_rounds y) new old
-      left (Key g k) new old = refl
-      left (Refused n) new old = refl
+      left : (y : Solving) (new old : List ℕ) → solved_or y new old ≡ rounds_or (as_rounds y) new old
+      left (Ok k) new old = refl
+      left (Err n) new old = refl

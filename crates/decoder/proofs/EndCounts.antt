@@ -8,7 +8,6 @@ use native.Mathlib.Decide.{ℕ_discrete}
 use native.Mathlib.Omega.{arith}
 use borrow.Author.Tests.{eqb-true, eq-eqb, ne_eqb, ltb-true, lt-ltb}
 use lib.ListN.{length, get_or, set, replicate, length-set, length-replicate, get_or-replicate}
-use lib.Seq.{get_or-set_same}
 use lib.Dec.{eqb, ltb}
 use Rattle.model.specs.Sums.{Set, bit, count_up_to}
 use Rattle.model.specs.Board.{vertex_limit, unmarked, EndsWithin}
@@ -35,13 +34,6 @@ one_fewer x a v h = get_d_set x a v (at x a - 1) 0 h ∙ go (eqb a v) refl
     go : (t : Bool) → eqb a v ≡ t → cond t (at x a - 1) (at x v) ≡ at x v - bit t
     go true p = rw (eqb-true a v p)
     go false p = omega arith
-
--- none is left after the last one, and only then
-pub last_one : (x : List ℕ) (v : ℕ) → v < length x → 1 ≤ at x v → at (set x v (at x v - 1)) v ≡ 0 → at x v ≡ 1
-last_one x v h some p = omega (arith, get_or-set_same x v (at x v - 1) 0 h)
-
-pub not_last : (x : List ℕ) (v : ℕ) → v < length x → at (set x v (at x v - 1)) v ≢ 0 → at x v ≢ 1
-not_last x v h p q = p (get_or-set_same x v (at x v - 1) 0 h ∙ omega arith)
 
 -- only what is full among the edges matters
 pub ends_cong : (m : ℕ) (ends : List ℕ) (F G : Set) (x : List ℕ) → ((e : ℕ) → e < m → F e ≡ G e) → Exposures m ends F x → Exposures m ends G x

@@ -12,7 +12,7 @@ use Rattle.model.specs.Sums.{Set, bit}
 use Rattle.model.specs.Board.{edge_limit}
 use Rattle.union_find.specs.Trees.{at}
 use Rattle.decoder.specs.EndLists.{latest_end}
-use Rattle.decoder.specs.Gains.{Raised, Liftable, Lifts, ends_at, RaisableAt}
+use Rattle.decoder.specs.Gains.{Raised, Liftable, Lifts, RaisableAt}
 use Rattle.decoder.proofs.EndListLaws.{latest_bound, latest_at, latest_after}
 use Rattle.decoder.proofs.Lifting.{raised_cong, liftable, lift_one}
 
@@ -90,13 +90,6 @@ module _ {latest earlier : List ℕ} {v : ℕ} {s₀ filled₀ : List ℕ} {coun
       none : (e : ℕ) → e < length w.start → ends_from w.ends v place e ≡ 0
       none e h =
           rw (none_at (2 * e) (omega (arith, w.lent.two_ends, w.raised.long)), none_at (2 * e + 1) (omega (arith, w.lent.two_ends, w.raised.long)))
-
-  -- all have
-  pub raise_all : (total : ℕ) (s filled : List ℕ) → RaisedFrom w 0 total s filled
-      → Raised w.start (λ e. w.gains e + ends_at w.ends v e) s filled total
-  raise_all total s filled r =
-      raised_cong (λ e. w.gains e + ends_from w.ends v 0 e) (λ e. w.gains e + ends_at w.ends v e)
-      (λ e h q. rw (le-leb 0 (2 * e) (omega arith), le-leb 0 (2 * e + 1) (omega arith))) w.supports r.raised
 
   module _ (place total : ℕ) (s filled : List ℕ) (r : RaisedFrom w place total s filled) (i : ℕ) (p : place ≡ suc i) where
     -- the next end's edge is one of those that have a support

@@ -46,13 +46,6 @@ figure_is_size x true true p = absurd (false≢true p)
 figure_is_size x true false p = omega arith
 figure_is_size x false holds p = absurd (false≢true p)
 
--- the figure of a vertex alone, as it is added up
-pub lone_figure : (exposed lit holds : Bool) → cond exposed 1 0 + cond (not lit) even_mark 0 + cond holds open_mark 0 ≡ figure_of (bit exposed) lit holds
-lone_figure true true holds = refl
-lone_figure true false holds = refl
-lone_figure false true holds = refl
-lone_figure false false holds = refl
-
 both_even : (a c : Bool) → cond (eqb (bit (not a)) (bit (not c))) even_mark 0 ≡ cond (a ⊕ c) 0 even_mark
 both_even true true = refl
 both_even true false = refl

@@ -8,12 +8,12 @@ use native.Mathlib.Nat.{le_refl}
 use native.Mathlib.Omega.{arith}
 use borrow.Author.Tests.{ne_eqb, eq-eqb, lt-ltb, le-ltb, ltb-true, ltb-false}
 use lib.Dec.{eqb, ltb}
+use Rattle.std.specs.Prelude.{Some, None}
 use Rattle.model.specs.Sums.{Set, some_up_to}
 use Rattle.model.specs.Board.{Board, Inside, vertex_limit}
 use Rattle.model.specs.Components.{label, within}
 use Rattle.model.specs.Growth.{full, clusters, odd, in_odd, choice, weighted}
 use Rattle.model.specs.Rounds.{all_odd}
-use Rattle.model.proofs.Contradiction.{zero_one}
 use Rattle.model.proofs.SumLaws.{some_here, none_some}
 use Rattle.theory.proofs.Components.{part_below}
 use Rattle.theory.proofs.GrowthRun.{OddPart}
@@ -24,7 +24,7 @@ use Rattle.decoder.specs.declared.growing.Growth.TheVariants.{Weighted, Rounds}
 use Rattle.decoder.specs.Figures.{odd_figure, Figured}
 use Rattle.decoder.specs.Choices.{least_up_to}
 use Rattle.decoder.specs.Raising.{growers}
-use Rattle.decoder.specs.Growing.{policy_of, is_some, Follows, FollowsAll}
+use Rattle.decoder.specs.Growing.{policy_of, Follows, FollowsAll}
 use Rattle.decoder.proofs.ChoiceLaws.{least_below, least_holds, none_least, odd_kept, figures_choose}
 
 -- Names from one to another
@@ -86,16 +86,6 @@ module _ (B : Board) (S : Set) (s figure : List ℕ) (few : B.vertices ≤ verte
     policy_over Weighted = weighted_over
     policy_over Rounds = rounds_over
 
-    nothing_grows : (x : Growth) → Follows (policy_of x) B S s figure (record { from = 0; to = 0 })
-    nothing_grows x =
-        let over = policy_over x in
-        record {
-          ordered = omega arith;
-          inside = omega arith;
-          any = ap is_some (sym over);
-          grow = λ T named v h. zero_one (cc);
-        }
-
   -- a is chosen
 
   module _ (a : ℕ) (q : least ≡ some a) where
@@ -109,16 +99,14 @@ module _ (B : Board) (S : Set) (s figure : List ℕ) (few : B.vertices ≤ verte
     unfolding weighted
     named_next = rw chosen_is
 
-    chosen_grows : Follows weighted B S s figure (record { from = a; to = suc a })
+    chosen_grows : Follows weighted B S s figure (record { start = a; end = suc a })
     chosen_grows =
         record {
           ordered = omega arith;
           inside = omega (arith, below);
-          any = ap not (ne_eqb a (suc a) (λ e. omega arith)) ∙ ap is_some (sym named_next);
-          grow = λ T named v h.
-              let both : some (within l a) ≡ some T = sym named_next ∙ named in
-              let is : within l a ≡ T = cc in
-              one_grows (label l) figure a (least_holds n (odd_figure figure) (at figure) a q) v ∙ ap (λ U. U v) is;
+          named = within l a;
+          is = named_next;
+          grow = λ v h. one_grows (label l) figure a (least_holds n (odd_figure figure) (at figure) a q) v;
         }
 
     -- the chosen cluster is odd, so there is a round
@@ -132,16 +120,14 @@ module _ (B : Board) (S : Set) (s figure : List ℕ) (few : B.vertices ≤ verte
     unfolding all_odd
     round_next = ap (λ t. cond t (some R) none) some_odd
 
-    round_grows : Follows all_odd B S s figure (record { from = 0; to = n })
+    round_grows : Follows all_odd B S s figure (record { start = 0; end = n })
     round_grows =
         record {
-          ordered = omega arith;
+          ordered = omega (arith, below);
           inside = le_refl _;
-          any = ap not (ne_eqb 0 n (λ e. omega (arith, below))) ∙ ap is_some (sym round_next);
-          grow = λ T named v h.
-              let both : some R ≡ some T = sym round_next ∙ named in
-              let is : R ≡ T = cc in
-              all_grow (label l) figure n v (label_inside v h) ∙ odd_label v h ∙ ap (λ U. U v) is;
+          named = R;
+          is = round_next;
+          grow = λ v h. all_grow (label l) figure n v (label_inside v h) ∙ odd_label v h;
         }
 
 -- Whatever board it is
@@ -150,11 +136,11 @@ module _ (n : ℕ) (figure : List ℕ) (few : n ≤ vertex_limit) where
   abbrev best : Option ℕ
   best = least_up_to n (odd_figure figure) (at figure)
 
-  pub follows_none : (x : Growth) → best ≡ none → FollowsAll (policy_of x) n figure (record { from = 0; to = 0 })
-  follows_none x q = record { each = λ B S s is r w. nothing_grows B S s figure (rw is few) r w (rw is q) x }
+  pub follows_none : (x : Growth) → best ≡ none → FollowsAll (policy_of x) n figure None
+  follows_none x q = record { each = λ B S s is r w. policy_over B S s figure (rw is few) r w (rw is q) x }
 
-  pub follows_chosen : (a : ℕ) → best ≡ some a → FollowsAll weighted n figure (record { from = a; to = suc a })
+  pub follows_chosen : (a : ℕ) → best ≡ some a → FollowsAll weighted n figure (Some (record { start = a; end = suc a }))
   follows_chosen a q = record { each = λ B S s is r w. chosen_grows B S s figure (rw is few) r w a (rw is q) }
 
-  pub follows_odd : (a : ℕ) → best ≡ some a → FollowsAll all_odd n figure (record { from = 0; to = n })
+  pub follows_odd : (a : ℕ) → best ≡ some a → FollowsAll all_odd n figure (Some (record { start = 0; end = n }))
   follows_odd a q = record { each = λ B S s is r w. rw (← is) (round_grows B S s figure (rw is few) r w a (rw is q)) }

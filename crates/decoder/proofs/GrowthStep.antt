@@ -1,24 +1,26 @@
 -- Clusters grow on the book: the supports are document 01's; once the newly full edges are shut, the figures are true of these supports; and
 -- the book with these edges fused is that of the supports. The rings are those of its clusters. Assumes nothing.
 use Prim.Native.Nat.{ℕ, ◌+◌, ◌*◌, ◌≤◌, ◌<◌, min}
-use mathlib.Core.Path.{◌≡◌, refl, sym, ◌∙◌, subst}
-use mathlib.Core.Bool.{true, not, ◌&&◌}
+use mathlib.Core.Path.{◌≡◌, refl, sym, ap, ◌∙◌, subst}
+use mathlib.Core.Bool.{true, not, ◌&&◌, ◌||◌}
 use mathlib.Core.List.{List}
 use native.Mathlib.Decide.{ℕ_discrete}
 use native.Mathlib.Omega.{arith}
 use borrow.Author.Tests.{ltb-true}
-use lib.ListN.{length, get_or, length-replicate}
+use lib.ListN.{length, get_or, take, length-replicate}
+use lib.Dec.{eqb}
+use Rattle.std.proofs.lemmas.List.{length-take, get_or-take}
 use Rattle.model.specs.Sums.{Set, bit}
 use Rattle.model.specs.Board.{Board, edge_limit, first_end, second_end, unmarked, plain}
 use Rattle.model.specs.Growth.{full, clusters, swell}
-use Rattle.model.proofs.SumLaws.{count_bound}
+use Rattle.model.proofs.SumLaws.{count_bound, some_cong}
 use Rattle.model.proofs.ListLaws.{values_are}
 use Rattle.theory.proofs.Components.{labels_cong}
 use Rattle.theory.proofs.MarksAside.{unmarked_inside}
 use Rattle.union_find.specs.Trees.{at}
 use Rattle.union_find.specs.Joining.{Mirrors}
 use Rattle.decoder.specs.declared.book.Book.{Book}
-use Rattle.decoder.specs.declared.growing.Growing.{Growing}
+use Rattle.std.specs.declared.ops.Range.{Range}
 use Rattle.decoder.specs.Gains.{with_listed, Raised}
 use Rattle.decoder.specs.Raising.{growers, ends_of, Raisable, Raises}
 use Rattle.decoder.specs.Rings.{Rings}
@@ -32,13 +34,13 @@ use Rattle.decoder.proofs.RingLaws.{rings_fewer}
 use Rattle.decoder.proofs.Figuring.{beside, beside_small, figured_sized, sized_figured}
 use Rattle.decoder.proofs.Fusing.{fuse_none}
 
-module _ (b : Book) (ends latest earlier : List ℕ) (r : Growing) (s x ring lent : List ℕ) (g : Growable b ends latest earlier r s x ring lent) where
+module _ (b : Book) (ends latest earlier : List ℕ) (r : Range ℕ) (s x ring lent : List ℕ) (g : Growable b ends latest earlier r s x ring lent) where
   abbrev B : Board
   B = plain b.vertices (length s) ends
 
   -- what grows
   abbrev R : Set
-  R = growers (name_of (parents_by b) (lows_of b)) b.figure r.from r.to
+  R = growers (name_of (parents_by b) (lows_of b)) b.figure r.start r.end
 
   -- the clusters of the supports are the book's own
   own : (opened : List ℕ) (S : Set) → TrueBook (unmarked b.vertices (length s) ends opened) S s b
@@ -105,14 +107,40 @@ module _ (b : Book) (ends latest earlier : List ℕ) (r : Growing) (s x ring len
 
     -- Shutting
 
-    newly : NewlyListed (length s) (full s) filled count
-    newly = record { few = few_listed; edges = raised.edges; outside = raised.outside; distinct = raised.distinct }
+    -- the listed edges are the first `count` entries
+    abbrev pub those : List ℕ
+    those = take count filled
+
+    those_many : length those ≡ count
+    those_many = omega (arith, length-take count filled, few_listed, raised.room)
+
+    same : (i : ℕ) → i < length those → get_or those i 0 ≡ get_or filled i 0
+    same i h = get_or-take count filled i 0 (omega (arith, those_many))
+
+    pub edges_listed : (i : ℕ) → i < length those → get_or those i 0 < length s
+    edges_listed i h = rw (same i h) (raised.edges i (omega (arith, those_many)))
+
+    newly : NewlyListed (length s) (full s) those (length those)
+    newly =
+        record {
+          few = omega (arith, few_listed, those_many);
+          edges = edges_listed;
+          outside = λ i h. rw (same i h) (raised.outside i (omega (arith, those_many)));
+          distinct = λ i j h l. rw (same i (omega arith), same j l) (raised.distinct i j h (omega (arith, those_many)));
+        }
+
+    becomes_full : (e : ℕ) → e < length s → full s' e ≡ with_listed (full s) (length those) those e
+    becomes_full e h =
+        raised.becomes_full e h
+        ∙ ap (λ k. with_listed (full s) k filled e) (sym those_many)
+        ∙ ap (λ t. full s e || t)
+        (some_cong (length those) (λ i. eqb (get_or filled i 0) e) (λ i. eqb (get_or those i 0) e) (λ i l. ap (λ y. eqb y e) (sym (same i l))))
 
     module _ (opened : List ℕ) (S : Set) (w : TrueBook (unmarked b.vertices (length s) ends opened) S s b) where
       abbrev C : Board
       C = unmarked b.vertices (length s) ends opened
 
-      abbrev listable : ListShuttable (parents_by b) (lows_of b) ends filled count x b.figure
+      abbrev listable : ListShuttable (parents_by b) (lows_of b) ends those (length those) x b.figure
       listable =
           record {
             vertices = b.vertices;
@@ -134,10 +162,10 @@ module _ (b : Book) (ends latest earlier : List ℕ) (r : Growing) (s x ring len
                 (own_figured opened S w);
           }
 
-      module _ (x' figure : List ℕ) (shut : ListShut (parents_by b) (lows_of b) ends filled count x b.figure x' figure) where
+      module _ (x' figure : List ℕ) (shut : ListShut (parents_by b) (lows_of b) ends those (length those) x b.figure x' figure) where
         counts_after : Exposures (length s) ends (full s') x'
         counts_after =
-            ends_cong (length s) ends (with_listed (full s) count filled) (full s') x' (λ e h. sym (raised.becomes_full e h)) (shut.each listable).counts
+            ends_cong (length s) ends (with_listed (full s) (length those) those) (full s') x' (λ e h. sym (becomes_full e h)) (shut.each listable).counts
 
         -- the figures of the clusters that are not fused yet are true of the new supports
         shut_figured : Figured C S s' (names b.vertices (parents_by b) (names_by figure)) figure
@@ -155,22 +183,22 @@ module _ (b : Book) (ends latest earlier : List ℕ) (r : Growing) (s x ring len
 
     -- Fusing
 
-    pub growable_listed : ListShuttable (parents_by b) (lows_of b) ends filled count x b.figure
+    pub growable_listed : ListShuttable (parents_by b) (lows_of b) ends those (length those) x b.figure
     growable_listed = listable g.opened g.lit g.book
 
-    module _ (x' figure : List ℕ) (shut : ListShut (parents_by b) (lows_of b) ends filled count x b.figure x' figure) where
+    module _ (x' figure : List ℕ) (shut : ListShut (parents_by b) (lows_of b) ends those (length those) x b.figure x' figure) where
       abbrev shut_book : Book
       shut_book = record { vertices = b.vertices; tree = b.tree; figure = figure }
 
-      pub shut_begins : FusesListed shut_book ends filled 0 shut_book
-      shut_begins = fuse_none shut_book ends filled (shut_good g.opened g.lit g.book x' figure shut)
+      pub shut_begins : FusesListed shut_book ends those 0 shut_book
+      shut_begins = fuse_none shut_book ends those (shut_good g.opened g.lit g.book x' figure shut)
 
       -- no further vertex has a count after shutting, so the rings are as good
       pub shut_rings : Rings b.vertices (parents_by b) (names_by figure) x' ring₁
       shut_rings = rw (told_still g.opened g.lit g.book x' figure shut) (rings_fewer fewer (t.each raisable).rings)
         where
           still : (e : ℕ) → e < length s → full s e ≡ true → full s' e ≡ true
-          still e h p = raised.becomes_full e h ∙ rw p
+          still e h p = becomes_full e h ∙ rw p
 
           fewer : (v : ℕ) → v < b.vertices → counted x' v ≡ true → counted x v ≡ true
           fewer v h =
@@ -178,17 +206,17 @@ module _ (b : Book) (ends latest earlier : List ℕ) (r : Growing) (s x ring len
               (omega (arith, g.lent.vertices_limited))
 
       -- the next listed edge may be fused
-      pub next_kept : (k : ℕ) (now : Book) → FusesListed shut_book ends filled k now → k < count → (u v : ℕ) → u ≡ get_or ends (2 * get_or filled k 0) 0
-          → v ≡ get_or ends (2 * get_or filled k 0 + 1) 0 → BothKept now u v
+      pub next_kept : (k : ℕ) (now : Book) → FusesListed shut_book ends those k now → k < length those → (u v : ℕ) → u ≡ get_or ends (2 * get_or those k 0) 0
+          → v ≡ get_or ends (2 * get_or those k 0 + 1) 0 → BothKept now u v
       next_kept k now f h u v p q =
           record {
             good = f.good;
-            first = omega (arith, f.vertices, g.lent.first_in_range (get_or filled k 0) (raised.edges k h));
-            second = omega (arith, f.vertices, g.lent.second_in_range (get_or filled k 0) (raised.edges k h));
+            first = omega (arith, f.vertices, g.lent.first_in_range (get_or those k 0) (edges_listed k h));
+            second = omega (arith, f.vertices, g.lent.second_in_range (get_or those k 0) (edges_listed k h));
           }
 
       -- the full edges are those before and the listed ones
-      pub grows : (now : Book) (ring' : List ℕ) → FusesListed shut_book ends filled count now
+      pub grows : (now : Book) (ring' : List ℕ) → FusesListed shut_book ends those (length those) now
           → Rings now.vertices (parents_by now) (lows_of now) x' ring'
           → Grows b ends r s (record { book = now; filled = count }) s' x' ring' filled
       unfolding clusters
@@ -208,9 +236,9 @@ module _ (b : Book) (ends latest earlier : List ℕ) (r : Growing) (s x ring len
               let A = unmarked b.vertices (length s) ends opened in
               let lows = subst (λ i. Lows i (parents_by now) (lows_of now)) f.vertices f.good.lows in
               let all : Mirrors b.vertices (parents_by now) (clusters A s') =
-              rw (labels_cong A (full s') (with_listed (full s) count filled)
-              (λ e h. raised.becomes_full e (omega (arith, length-replicate {A = ℕ} (length s) 0))))
-              (f.each (length s) opened (full s) g.lent raised.edges w.mirrors) in
+              rw (labels_cong A (full s') (with_listed (full s) (length those) those)
+              (λ e h. becomes_full e (omega (arith, length-replicate {A = ℕ} (length s) 0))))
+              (f.each (length s) opened (full s) g.lent edges_listed w.mirrors) in
               record {
                 vertices = f.vertices;
                 good = f.good;

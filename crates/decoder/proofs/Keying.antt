@@ -19,8 +19,6 @@ use Rattle.model.specs.Decoding.{smallest_odd, grown_by, peeled}
 use Rattle.model.specs.Refusals.{edges_of}
 use Rattle.model.proofs.SumLaws.{odd_cong, count_none}
 use Rattle.model.proofs.ListLaws.{ones_bytes, values_are}
-use Rattle.board.specs.declared.outcome.FoundVertex.{FoundVertex}
-use Rattle.board.specs.declared.outcome.FoundVertex.TheVariants.{At, Nothing}
 use Rattle.board.specs.Checks.{vertex_found}
 use Rattle.board.specs.Bounds.{Bounded, entry}
 use Rattle.board.proofs.Bounding.{none_one}
@@ -39,7 +37,6 @@ use Rattle.peeling.specs.Peeling.{Clears, EvenClusters, Peelable, correction_of,
 use Rattle.decoder.specs.declared.book.Book.{Book}
 use Rattle.decoder.specs.declared.growing.Growth.{Growth}
 use Rattle.decoder.specs.declared.growth.Ran.{Ran}
-use Rattle.decoder.specs.declared.key.Solved.TheVariants.{Key, Refused}
 use Rattle.decoder.specs.Growing.{policy_of}
 use Rattle.decoder.specs.Gains.{start_of}
 use Rattle.decoder.specs.Figures.{Lows}
@@ -47,7 +44,9 @@ use Rattle.decoder.specs.TreeLabels.{Nameable, Labelled}
 use Rattle.decoder.specs.OddEnds.{vertex_board, Markable, MarksEnds}
 use Rattle.decoder.specs.Books.{parents_by, lows_of}
 use Rattle.decoder.specs.Runs.{bare, Runnable, Runs}
-use Rattle.decoder.specs.Keys.{Keyable, solved_or_none, Keys}
+use Rattle.std.specs.Prelude as rust
+use Rattle.std.specs.Prelude.{Ok, Err, Some, None}
+use Rattle.decoder.specs.Keys.{Keyable, solved_or_none, Keys, solved_with}
 use Rattle.decoder.proofs.NameLaws.{names_label, names_are}
 use Rattle.decoder.proofs.Policies.{policy_feeds}
 use Rattle.decoder.proofs.RunLaws.{start_of_lost}
@@ -88,16 +87,16 @@ module _ (x : Growth) (n : ℕ) (ends opened syndrome loss support written : Lis
     unfolding peeled
     empty = nothing_corrected board (full (grown_by policy sheet).support) (ones syndrome) dark
 
-    pub unlit_keyed : (s k : List ℕ) → s ≡ start_of loss → Clears written k → Keys policy sheet support written (Key 0 0) s k
+    pub unlit_keyed : (s k : List ℕ) → s ≡ start_of loss → Clears written k → Keys policy sheet support written (solved_with 0 0) s k
     unfolding solved_or_none
     unlit_keyed s k lost clears =
         let D = peeled sheet (grown_by policy sheet) in
         let many = length-replicate {A = ℕ} m 0 in
         record {
           result =
-              ap (λ g. Key g 0) (sym (ap (λ y. y.count) still))
-              ∙ ap (Key (grown_by policy sheet).count) (sym (count_none (edges board) D (λ e h. empty e)))
-              ∙ sym (even_answer Refused _ sheet (no_odd_part board (ones syndrome) dark));
+              ap (λ g. solved_with g 0) (sym (ap (λ y. y.count) still))
+              ∙ ap (solved_with (grown_by policy sheet).count) (sym (count_none (edges board) D (λ e h. empty e)))
+              ∙ sym (even_answer Err _ sheet (no_odd_part board (ones syndrome) dark));
           support_bytes = lost ∙ start_of_lost n ends opened loss ∙ sym (ap (λ y. y.support) still);
           correction_bytes =
               values_are (edges board) (λ e. bit (D e)) k (clears.same_length ∙ w.correction_long ∙ sym many)
@@ -110,20 +109,20 @@ module _ (x : Growth) (n : ℕ) (ends opened syndrome loss support written : Lis
   searchable =
       record { board = subst (λ k. EndsWithin n k ends) (sym halves) w.lent; open_bytes = w.open_bytes; bytes = w.lit }
 
-  module _ (y : FoundVertex) (found : vertex_found y ≡ smallest_odd (unmarked n (edges_of ends) ends opened) (ones syndrome)) where
+  module _ (y : rust.Option Vertex) (found : vertex_found y ≡ smallest_odd (unmarked n (edges_of ends) ends opened) (ones syndrome)) where
     smallest : smallest_odd board (ones syndrome) ≡ vertex_found y
     smallest = sym (found ∙ ap (λ k. smallest_odd (unmarked n k ends opened) (ones syndrome)) halves)
 
-    pub shows_odd : (v : Vertex) → y ≡ At v → Keys policy sheet support written (Refused (NoCorrection v)) support written
+    pub shows_odd : (v : Vertex) → y ≡ Some v → Keys policy sheet support written (Err (NoCorrection v)) support written
     unfolding solved_or_none
     shows_odd v is =
         record {
-          result = sym (odd_answer Refused _ sheet v.0 (smallest ∙ ap vertex_found is));
+          result = sym (odd_answer Err _ sheet v.0 (smallest ∙ ap vertex_found is));
           support_bytes = refl;
           correction_bytes = refl;
         }
 
-    module _ (nothing : y ≡ Nothing) where
+    module _ (nothing : y ≡ None) where
       none_odd : smallest_odd board (ones syndrome) ≡ none
       none_odd = smallest ∙ ap vertex_found nothing
 
@@ -194,14 +193,14 @@ module _ (x : Growth) (n : ℕ) (ends opened syndrome loss support written : Lis
           edge_count : length s' ≡ length board.marks
           edge_count = grown_long ∙ sym (length-replicate m 0)
 
-          pub keyed_by : (e : ℕ) (k : List ℕ) → Peels n ends s' front e k → Keys policy sheet support written (Key r.count e) s' k
+          pub keyed_by : (e : ℕ) (k : List ℕ) → Peels n ends s' front e k → Keys policy sheet support written (solved_with r.count e) s' k
           unfolding solved_or_none
           keyed_by e k peels =
               record {
                 result =
-                    ap (λ z. Key z e) ran.count
-                    ∙ ap (Key (grown_by policy sheet).count) (peels.count ∙ ap (λ D. count_up_to (length s') D) correction_is ∙ ap (λ i. count_up_to i corrected) edge_count)
-                    ∙ sym (even_answer Refused _ sheet none_odd);
+                    ap (λ z. solved_with z e) ran.count
+                    ∙ ap (solved_with (grown_by policy sheet).count) (peels.count ∙ ap (λ D. count_up_to (length s') D) correction_is ∙ ap (λ i. count_up_to i corrected) edge_count)
+                    ∙ sym (even_answer Err _ sheet none_odd);
                 support_bytes = ran.supports;
                 correction_bytes = peels.bytes_are ∙ ap (bytes (length s')) correction_is ∙ ap (λ i. bytes i corrected) edge_count;
               }
@@ -218,7 +217,7 @@ module _ (x : Growth) (n : ℕ) (ends opened syndrome loss support written : Lis
           pub sealed_peelable : Peelable n ends s' syndrome written
           sealed_peelable = peelable_by syndrome w.lit.count syndrome_ends
 
-          pub sealed_keyed : (e : ℕ) (k : List ℕ) → Peels n ends s' syndrome e k → Keys policy sheet support written (Key r.count e) s' k
+          pub sealed_keyed : (e : ℕ) (k : List ℕ) → Peels n ends s' syndrome e k → Keys policy sheet support written (solved_with r.count e) s' k
           sealed_keyed = keyed_by syndrome w.lit.count syndrome_ends
 
         -- The odd ends, by the labels of the book
@@ -278,5 +277,5 @@ module _ (x : Growth) (n : ℕ) (ends opened syndrome loss support written : Lis
             pub peelable : Peelable n ends s' front written
             peelable = peelable_by front front_long ends_are
 
-            pub keyed : (e : ℕ) (k : List ℕ) → Peels n ends s' front e k → Keys policy sheet support written (Key r.count e) s' k
+            pub keyed : (e : ℕ) (k : List ℕ) → Peels n ends s' front e k → Keys policy sheet support written (solved_with r.count e) s' k
             keyed = keyed_by front front_long ends_are

@@ -9,7 +9,7 @@ use native.Mathlib.Decide.{ℕ_discrete}
 use native.Mathlib.Numerals.{add-one}
 use native.Mathlib.Omega.{arith}
 use lib.ListN.{length, get_or, set, length-set}
-use lib.Seq.{get_or-set_same, get_or-set_other, set-get_or}
+use lib.Seq.{get_or-set_same, get_or-set_other}
 use lib.Dec.{eqb}
 use borrow.Author.Tests.{eqb-true, eqb-false, eq-eqb, ne_eqb}
 use Rattle.model.specs.Sums.{Set, bit, some_up_to, values}
@@ -25,17 +25,6 @@ pub record Filled (f : ℕ → ℕ) (s₀ : List ℕ) (k : ℕ) (s : List ℕ) :
   pub long : length s ≡ length s₀
   pub done : (e : ℕ) → e < k → get_or s e 0 ≡ f e
   pub rest : (e : ℕ) → k ≤ e → get_or s e 0 ≡ get_or s₀ e 0
-
-pub fill_none : (f : ℕ → ℕ) (s : List ℕ) → Filled f s 0 s
-fill_none f s = record { long = refl; done = λ e h. absurd (not-suc-le-zero h); rest = λ e h. refl }
-
-pub fill_one : (f : ℕ → ℕ) (s₀ : List ℕ) (k : ℕ) (s : List ℕ) (x : ℕ) → k < length s₀ → x ≡ f k → Filled f s₀ k s → Filled f s₀ (suc k) (set s k x)
-fill_one f s₀ k s x h p w =
-    record {
-      long = simp length-set w.long;
-      done = λ e i. below_suc k e i (λ l. get_or-set_other s k e x 0 (λ q. omega arith) ∙ w.done e l) (λ q. rw q (get_or-set_same s k x 0 (omega arith) ∙ p));
-      rest = λ e i. get_or-set_other s k e x 0 (λ q. omega arith) ∙ w.rest e (omega arith);
-    }
 
 pub fill_all : (f : ℕ → ℕ) (s₀ : List ℕ) (s : List ℕ) → Filled f s₀ (length s₀) s → s ≡ values (length s₀) f
 fill_all f s₀ s w = values_are (length s₀) f s w.long w.done
@@ -81,24 +70,6 @@ raised_cong {s = s} g h same small w =
     go e l false p = omega (arith, same e l p)
 
 -- One half-edge more
-
--- a full edge stays as it is
-pub keeps_full : (s filled : List ℕ) (e count : ℕ) → full s e ≡ true → Lifts s filled e count count s filled
-keeps_full s filled e count p =
-    let two = eqb-true (get_or s e 0) 2 p in
-    let q : min 2 (get_or s e 0 + 1) ≡ get_or s e 0 = omega arith in
-    record { support = rw q (sym (set-get_or s e 0)); lists = rw two; counts = rw two (omega arith) }
-
--- an edge without half-edges has one then
-pub becomes_half : (s filled : List ℕ) (e count : ℕ) → get_or s e 0 ≡ 0 → Lifts s filled e count count (set s e (get_or s e 0 + 1)) filled
-becomes_half s filled e count p =
-    record { support = ap (set s e) {x = get_or s e 0 + 1} {y = min 2 (get_or s e 0 + 1)} (omega arith); lists = rw p; counts = rw p (omega arith) }
-
--- one with one is full then
-pub becomes_full :
-    (s filled : List ℕ) (e count : ℕ) → get_or s e 0 ≡ 1 → Lifts s filled e count (count + 1) (set s e (get_or s e 0 + 1)) (set filled count e)
-becomes_full s filled e count p =
-    record { support = ap (set s e) {x = get_or s e 0 + 1} {y = min 2 (get_or s e 0 + 1)} (omega arith); lists = rw p; counts = rw p }
 
 module _ (s₀ : List ℕ) (g : ℕ → ℕ) (s filled : List ℕ) (count : ℕ) (w : Raised s₀ g s filled count) (limit : length s ≤ edge_limit)
     (e : ℕ) (edge : e < length s) where

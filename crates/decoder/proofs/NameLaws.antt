@@ -1,22 +1,18 @@
 -- The trees' names, as labels: they are those of the parts that the trees mirror. Assumes nothing.
-use Prim.Native.Nat.{ℕ, suc, ◌<◌}
+use Prim.Native.Nat.{ℕ, ◌<◌}
 use mathlib.Core.Path.{◌≡◌, sym, ap, ◌∙◌}
 use mathlib.Core.List.{List}
-use native.Mathlib.Nat.{le_antisymm, not-suc-le-zero}
+use native.Mathlib.Nat.{le_antisymm}
 use native.Mathlib.Omega.{arith}
-use lib.ListN.{set, replicate, length-set, length-replicate}
-use lib.Seq.{get_or-set_same, get_or-set_other}
 use Rattle.model.specs.Sums.{Set}
-use Rattle.model.specs.Board.{Board, Inside, vertex_limit}
+use Rattle.model.specs.Board.{Board, Inside}
 use Rattle.model.specs.Components.{label, labels}
-use Rattle.model.proofs.SumLaws.{below_suc}
 use Rattle.model.proofs.ListLaws.{get_d_values, values_are, values_cong}
 use Rattle.theory.proofs.Components.{part_length, part_below, part_own, part_connected, part_smallest}
 use Rattle.union_find.specs.Trees.{at, root_of}
 use Rattle.union_find.specs.Joining.{Mirrors}
 use Rattle.union_find.proofs.Labels.{root_label, label_root}
 use Rattle.decoder.specs.Figures.{Lows, name_of, names, Leads}
-use Rattle.decoder.specs.TreeLabels.{Labelled}
 
 module _ (n : ℕ) (p low : List ℕ) where
   pub names_label : (v : ℕ) → v < n → label (names n p low) v ≡ name_of p low v
@@ -48,18 +44,6 @@ names_are B F r {p} {low} mirrors w = values_are B.vertices (name_of p low) (lab
         (rw (← ap (at low) root) (w.below a (part_below B F v h)))
 
 -- The labels, written vertex after vertex
-
-pub label_none : (p low : List ℕ) (n : ℕ) → n ≡ vertex_limit → Labelled 0 p low (replicate n 0)
-label_none p low n q = record { long = length-replicate n 0 ∙ q; each = λ v h. absurd (not-suc-le-zero h) }
-
-pub label_next : (k : ℕ) (p low l : List ℕ) (a : ℕ) → k < vertex_limit → a ≡ name_of p low k → Labelled k p low l → Labelled (suc k) p low (set l k a)
-label_next k p low l a h q w =
-    record {
-      long = simp length-set w.long;
-      each = λ v i. below_suc k v i
-          (λ m. get_or-set_other l k v a 0 (λ e. omega arith) ∙ w.each v m)
-          (λ e. rw e (get_or-set_same l k a 0 (omega (arith, w.long)) ∙ q));
-    }
 
 -- Every vertex keeps its root
 

@@ -1,17 +1,16 @@
 -- The rings of a book's clusters: at the start, when vertices leave the boundary, and when two clusters become one. Assumes nothing.
-use Prim.Native.Nat.{ℕ, suc, ◌+◌, ◌≤◌, ◌<◌}
+use Prim.Native.Nat.{ℕ, ◌+◌, ◌≤◌, ◌<◌}
 use mathlib.Core.Path.{◌≡◌, refl, sym, ap, ◌∙◌, subst}
 use mathlib.Core.Logic.{◌≢◌, ◌⊎◌, inl, inr, ⊎_elim}
 use mathlib.Core.Bool.{Bool, true, false, ◌&&◌, ◌||◌, false≢true}
 use mathlib.Core.List.{List, [], ◌∷◌, ◌++◌}
 use native.Mathlib.Decide.{ℕ_discrete}
-use native.Mathlib.Nat.{le_antisymm, not-suc-le-zero}
+use native.Mathlib.Nat.{le_antisymm}
 use native.Mathlib.Omega.{arith}
 use borrow.Author.Tests.{eqb-true, eqb-false, eq-eqb}
-use lib.ListN.{length, set, length-set}
+use lib.ListN.{set, length-set}
 use lib.Seq.{get_or-set_same, get_or-set_other}
 use Rattle.model.specs.Board.{vertex_limit}
-use Rattle.model.proofs.SumLaws.{below_suc}
 use Rattle.union_find.specs.Trees.{at, root_of}
 use Rattle.union_find.specs.Joining.{same_root}
 use Rattle.decoder.specs.declared.book.Book.{Book}
@@ -39,18 +38,6 @@ single v a = elim (ℕ_discrete v a) [
   | yes q ↦ rw q (omega (arith, times_here a [], times_none a))
   | no q ↦ omega (arith, times_other v a [] q, times_none v)
 ]
-
-pub lone_none : (ring : List ℕ) → length ring ≡ vertex_limit → LoneRings 0 ring
-lone_none ring long = record { long = long; each = λ v h. absurd (not-suc-le-zero h) }
-
-pub lone_next : (k : ℕ) (ring : List ℕ) → k < vertex_limit → LoneRings k ring → LoneRings (suc k) (set ring k k)
-lone_next k ring h w =
-    record {
-      long = simp length-set w.long;
-      each = λ v i. below_suc k v i
-          (λ m. get_or-set_other ring k v k 0 (λ e. omega arith) ∙ w.each v m)
-          (λ e. rw e (get_or-set_same ring k k 0 (omega (arith, w.long))));
-    }
 
 pub rings_alone : (n : ℕ) (p low x ring : List ℕ) → ((v : ℕ) → v < n → root_of p v ≡ v) → LoneRings n ring → Rings n p low x ring
 unfolding Passes

@@ -15,7 +15,7 @@ use Rattle.model.specs.Board.{vertex_limit, EndsWithin}
 use Rattle.model.specs.Growth.{full}
 use Rattle.model.proofs.EndLaws.{within_limit}
 use Rattle.union_find.specs.Trees.{at, root_of}
-use Rattle.decoder.specs.declared.growing.Growing.{Growing}
+use Rattle.std.specs.declared.ops.Range.{Range}
 use Rattle.decoder.specs.Exposures.{counted}
 use Rattle.decoder.specs.Figures.{name_of, odd_figure}
 use Rattle.decoder.specs.Gains.{Raised, RaisableAt, RaisesAt, ends_at}
@@ -93,9 +93,6 @@ module _ {latest earlier ring : List ℕ} {a : ℕ} {s₀ filled₀ : List ℕ} 
           (λ e h loose. omega (arith, times_last (get_or w.ends (2 * e) 0) v now.passed, times_last (get_or w.ends (2 * e + 1) 0) v now.passed))
           w.supports (raises.each raisable_next)
 
-      pub ring_long : length s' ≡ length s₀
-      ring_long = raised_here.long ∙ sym w.raised.long
-
       -- the round is over
       pub ring_ends : at ring v ≡ a → Raised w.start (λ e. w.gains e + ends_in w.ends w.round e) s' filled' r
       ring_ends q =
@@ -147,7 +144,7 @@ ltb_next x a q = go (ltb x a) refl
     go true p = sym (lt-ltb x (suc a) (omega (arith, ltb-true x a p)))
     go false p = sym (le-ltb x (suc a) (omega (arith, ltb-false x a p)))
 
-module _ {latest earlier figure : List ℕ} {r : Growing} {x ring₀ s filled₀ : List ℕ} (w : Raisable latest earlier figure r x ring₀ s filled₀) where
+module _ {latest earlier figure : List ℕ} {r : Range ℕ} {x ring₀ s filled₀ : List ℕ} (w : Raisable latest earlier figure r x ring₀ s filled₀) where
   abbrev n : ℕ
   n = w.vertices
 
@@ -158,20 +155,20 @@ module _ {latest earlier figure : List ℕ} {r : Growing} {x ring₀ s filled₀
   name = name_of P w.low
 
   abbrev R : ℕ → Set
-  R k = growers name figure r.from k
+  R k = growers name figure r.start k
 
-  nobody : (v : ℕ) → R r.from v ≡ false
-  nobody v = go (ltb (name v) r.from)
+  nobody : (v : ℕ) → R r.start v ≡ false
+  nobody v = go (ltb (name v) r.start)
     where
       go : (t : Bool) → (not t && (t && odd_figure figure (name v))) ≡ false
       go true = refl
       go false = refl
 
-  pub raise_begins : RaisedBy w r.from 0 ring₀ s filled₀
+  pub raise_begins : RaisedBy w r.start 0 ring₀ s filled₀
   raise_begins =
       record {
         raised =
-            raised_cong (λ e. 0) (ends_of w.ends (R r.from))
+            raised_cong (λ e. 0) (ends_of w.ends (R r.start))
             (λ e h loose. rw (nobody (get_or w.ends (2 * e) 0), nobody (get_or w.ends (2 * e + 1) 0)))
             w.supports (raised_none s filled₀ w.supports w.room);
         rings = w.rings;
@@ -180,10 +177,10 @@ module _ {latest earlier figure : List ℕ} {r : Growing} {x ring₀ s filled₀
   few : n ≤ vertex_limit
   few = w.lent.vertices_limited
 
-  module _ {a : ℕ} {count : ℕ} {ring s' filled : List ℕ} (now : RaisedBy w a count ring s' filled) (begun : r.from ≤ a) (below : a < n) where
+  module _ {a : ℕ} {count : ℕ} {ring s' filled : List ℕ} (now : RaisedBy w a count ring s' filled) (begun : r.start ≤ a) (below : a < n) where
     -- who has another name grows with a as without
     others : (v : ℕ) → name v ≢ a → R a v ≡ R (suc a) v
-    others v q = ap (λ t. not (ltb (name v) r.from) && (t && odd_figure figure (name v))) (ltb_next (name v) a q)
+    others v q = ap (λ t. not (ltb (name v) r.start) && (t && odd_figure figure (name v))) (ltb_next (name v) a q)
 
     -- a is not odd
     pub raise_passes : odd_figure figure a ≡ false → RaisedBy w (suc a) count ring s' filled
@@ -259,7 +256,7 @@ module _ {latest earlier figure : List ℕ} {r : Growing} {x ring₀ s filled₀
         -- so it gets its share
         share : (v : ℕ) → v < n → counted x v ≡ true → bit (R a v) + times v mine.round ≡ bit (R (suc a) v)
         share v h c = rw (passed_once v h c) (elim (ℕ_discrete (name v) a) [
-          | yes q ↦ rw (q, eq-eqb a a refl, le-ltb a a (omega arith), lt-ltb a (suc a) (omega arith), le-ltb a r.from begun, odd)
+          | yes q ↦ rw (q, eq-eqb a a refl, le-ltb a a (omega arith), lt-ltb a (suc a) (omega arith), le-ltb a r.start begun, odd)
           | no q ↦ rw (ne_eqb (name v) a q, others v q) (omega arith)
         ])
 

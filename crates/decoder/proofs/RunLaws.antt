@@ -1,13 +1,12 @@
 -- A run: the supports at the start, and growth until no cluster is odd. Assumes nothing.
 use Prim.Native.Nat.{ℕ, suc, ◌*◌, ◌-◌, ◌≤◌, ◌<◌}
 use mathlib.Core.Path.{◌≡◌, refl, sym, ap, ◌∙◌, subst, subst₂}
-use mathlib.Core.Bool.{cond, not, ◌&&◌, false≢true}
+use mathlib.Core.Bool.{cond, not, ◌&&◌}
 use mathlib.Core.List.{List, []}
-use mathlib.Core.Option.{Option, none, some}
 use native.Mathlib.Omega.{arith}
-use borrow.Author.Tests.{eq-eqb, ne_eqb}
 use lib.ListN.{length, replicate, length-replicate}
 use lib.Dec.{ltb}
+use Rattle.std.specs.Prelude.{Some, None}
 use Rattle.model.specs.Sums.{Set, ones, values}
 use Rattle.model.specs.Board.{Board, Sheet, Inside, EndsWithin, unmarked, plain, vertex_limit, edge_limit}
 use Rattle.model.specs.Components.{label}
@@ -23,20 +22,18 @@ use Rattle.theory.proofs.MarksAside.{unmarked_inside, swell_aside}
 use Rattle.decoder.specs.declared.book.Book.{Book}
 use Rattle.decoder.specs.declared.book.Grown.{Grown}
 use Rattle.decoder.specs.declared.growing.Growth.{Growth}
-use Rattle.decoder.specs.declared.growing.Growing.{Growing}
+use Rattle.std.specs.declared.ops.Range.{Range}
 use Rattle.decoder.specs.Gains.{Supports, start_of}
 use Rattle.decoder.specs.Figures.{Lows, name_of, odd_figure}
 use Rattle.decoder.specs.Exposures.{Exposures}
-use Rattle.decoder.specs.EndLists.{Unlisted, EndLists}
-use Rattle.decoder.specs.Rings.{LoneRings, Rings}
+use Rattle.decoder.specs.EndLists.{Unlisted, Listed}
+use Rattle.decoder.specs.Rings.{Rings}
 use Rattle.decoder.specs.Raising.{growers}
-use Rattle.decoder.specs.Choices.{Choosable}
-use Rattle.decoder.specs.Books.{parents_by, lows_of, TrueBook, Gatherable, Gathers, Growable, Grows}
-use Rattle.decoder.specs.Growing.{policy_of, is_some, Follows, FollowsAll}
+use Rattle.decoder.specs.Books.{parents_by, lows_of, TrueBook, Gathers, Growable, Grows}
+use Rattle.decoder.specs.Growing.{policy_of, Follows, FollowsAll}
 use Rattle.decoder.specs.Runs.{bare, Runnable, Runs}
 use Rattle.decoder.proofs.NameLaws.{names_label, names_are}
 use Rattle.decoder.proofs.Policies.{policy_feeds}
-use Rattle.decoder.proofs.ChoiceLaws.{figures_choosable}
 
 -- before any end is listed
 pub none_listed : Unlisted (replicate vertex_limit 0) (replicate (2 * edge_limit) 0)
@@ -105,10 +102,6 @@ module _ (x : Growth) (n : ℕ) (ends opened syndrome loss s₀ : List ℕ) (w :
     countable = within_limit started_lent
 
     module _ (counts : List ℕ) (counted : Exposures (length s) ends (full s) counts) where
-      pub gatherable : (lone : List ℕ) → LoneRings n lone → Gatherable n ends opened syndrome s counts lone
-      gatherable lone rings =
-          record { lent = started_lent; open_bytes = w.open_bytes; lit = w.lit; counts = counted; rings = rings }
-
       pub run_begins : (b : Book) (ring : List ℕ) → Gathers (unmarked n (length s) ends opened) S s counts b ring
           → Running x n ends opened syndrome loss s counts ring b 0
       unfolding grown_by grown
@@ -130,110 +123,91 @@ module _ (x : Growth) (n : ℕ) (ends opened syndrome loss s₀ : List ℕ) (w :
   -- One growth
 
   module _ (s counts ring : List ℕ) (b : Book) (g : ℕ) (run : Running x n ends opened syndrome loss s counts ring b g) where
-    pub choosable : Choosable n b.figure
-    choosable = figures_choosable B S s _ b.figure w.lent.vertices_limited run.book.figures run.book.good.figures_long
+    -- no cluster is odd: the run ends here
+    pub run_done : FollowsAll (policy_of x) n b.figure None → Runs (policy_of x) X (record { book = b; count = g }) s
+    run_done none_follow =
+        let end = sym (run_stops B policy (2 * m - g) s g (none_follow.each B S s refl inside run.book.figures)) ∙ run.rest in
+        record { count = ap (λ y. y.count) end; supports = ap (λ y. y.support) end; book = run.book }
 
-    module _ (r : Growing) (all : FollowsAll (policy_of x) n b.figure r) where
+    -- some vertices grow
+    module _ (r : Range ℕ) (all : FollowsAll (policy_of x) n b.figure (Some r)) where
       follows : Follows (policy_of x) B S s b.figure r
       follows = all.each B S s refl inside run.book.figures
 
-      -- no cluster is odd: the run ends here
-      pub run_done : r.from ≡ r.to → Runs (policy_of x) X (record { book = b; count = g }) s
-      run_done p = go (policy s) refl
-        where
-          go : (o : Option Set) → policy s ≡ o → Runs (policy_of x) X (record { book = b; count = g }) s
-          go (some R) q = absurd (false≢true (ap not (sym (eq-eqb r.from r.to p)) ∙ follows.any ∙ ap is_some q))
-          go none q =
-              let end = sym (run_stops B policy (2 * m - g) s g q) ∙ run.rest in
-              record { count = ap (λ y. y.count) end; supports = ap (λ y. y.support) end; book = run.book }
+      pub growths_left : g < 2 * m
+      growths_left =
+          omega (
+            arith,
+            growth_left B inside S (ones loss) policy (policy_feeds x B inside S) w.unlit w.none_odd run.reached follows.is,
+            length-replicate {A = ℕ} m 0,
+          )
 
-      module _ (p : r.from ≡ r.to → ⊥) where
-        -- some vertices grow
-        record Named : Type 0 where
-          at : Set
-          is : policy s ≡ some at
+      supports_here : Supports s
+      supports_here =
+          let y = reached_supports B policy (ones loss) run.reached in
+          record { small = λ e h. y.bounded e (omega (arith, y.long)) }
 
-        named : Named
-        named = go (policy s) refl
-          where
-            go : (o : Option Set) → policy s ≡ o → Named
-            go none q = absurd (false≢true (sym (ap is_some q) ∙ sym follows.any ∙ ap not (ne_eqb r.from r.to p)))
-            go (some R) q = record { at = R; is = q }
+      book_there : TrueBook (unmarked b.vertices (length s) ends opened) S s b
+      book_there = subst₂ (λ i j. TrueBook (unmarked i j ends opened) S s b) (sym run.book.vertices) (sym run.long) run.book
 
-        pub growths_left : g < 2 * m
-        growths_left =
-            omega (
-              arith,
-              growth_left B inside S (ones loss) policy (policy_feeds x B inside S) w.unlit w.none_odd run.reached named.is,
-              length-replicate {A = ℕ} m 0,
-            )
+      pub growable : (latest earlier filled : List ℕ) → Listed ends latest earlier → length filled ≡ edge_limit
+          → Growable b ends latest earlier r s counts ring filled
+      growable latest earlier filled lists room =
+          record {
+            lent = subst₂ (λ i j. EndsWithin i j ends) (sym run.book.vertices) (sym run.long) w.lent;
+            lists = lists;
+            ordered = omega (arith, follows.ordered);
+            inside = omega (arith, follows.inside, run.book.vertices);
+            supports = supports_here;
+            room = room;
+            counts = subst (λ k. Exposures k ends (full s) counts) (sym run.long) run.ends_left;
+            rings = run.rings;
+            opened = opened;
+            lit = S;
+            book = book_there;
+          }
 
-        supports_here : Supports s
-        supports_here =
-            let y = reached_supports B policy (ones loss) run.reached in
-            record { small = λ e h. y.bounded e (omega (arith, y.long)) }
+      -- what grows, by the names of the book's trees
+      abbrev growing : Set
+      growing = growers (name_of (parents_by b) (lows_of b)) b.figure r.start r.end
 
-        book_there : TrueBook (unmarked b.vertices (length s) ends opened) S s b
-        book_there = subst₂ (λ i j. TrueBook (unmarked i j ends opened) S s b) (sym run.book.vertices) (sym run.long) run.book
+      -- a vertex's label is the name of its tree
+      labelled : (v : ℕ) → v < n → label (clusters B s) v ≡ name_of (parents_by b) (lows_of b) v
+      unfolding clusters
+      labelled v h =
+          let lows = subst (λ k. Lows k (parents_by b) (lows_of b)) run.book.vertices run.book.good.lows in
+          ap (λ l. label l v) (names_are B (full s) inside run.book.mirrors lows) ∙ names_label n (parents_by b) (lows_of b) v h
 
-        pub growable : (latest earlier filled : List ℕ) → EndLists ends latest earlier → length filled ≡ edge_limit
-            → Growable b ends latest earlier r s counts ring filled
-        growable latest earlier filled lists room =
+      growing_is : (v : ℕ) → v < n → growing v ≡ follows.named v
+      growing_is v h =
+          ap (λ a. not (ltb a r.start) && (ltb a r.end && odd_figure b.figure a)) (sym (labelled v h))
+          ∙ follows.grow v h
+
+      module _ (made : Grown) (s' counts' ring' filled' : List ℕ) (grows : Grows b ends r s made s' counts' ring' filled') where
+        swelled : s' ≡ swell B s follows.named
+        swelled =
+            grows.supports
+            ∙ subst₂ (λ i j. swell (plain i j ends) s growing ≡ swell (plain n m ends) s growing) (sym run.book.vertices) (sym run.long) refl
+            ∙ swell_aside n ends _ _ [] opened refl s growing
+            ∙ swell_cong B inside s growing follows.named growing_is
+
+        reaches : Reached B policy (ones loss) s' (suc g)
+        reaches = subst (λ z. Reached B policy (ones loss) z (suc g)) (sym swelled) (after run.reached follows.is)
+
+        pub run_more : Running x n ends opened syndrome loss s' counts' ring' made.book (suc g)
+        run_more =
             record {
-              lent = subst₂ (λ i j. EndsWithin i j ends) (sym run.book.vertices) (sym run.long) w.lent;
-              lists = lists;
-              ordered = follows.ordered;
-              inside = omega (arith, follows.inside, run.book.vertices);
-              supports = supports_here;
-              room = room;
-              counts = subst (λ k. Exposures k ends (full s) counts) (sym run.long) run.ends_left;
-              rings = run.rings;
-              opened = opened;
-              lit = S;
-              book = book_there;
+              long = (reached_supports B policy (ones loss) reaches).long ∙ length-replicate m 0;
+              book = subst₂ (λ i j. TrueBook (unmarked i j ends opened) S s' made.book) run.book.vertices run.long (grows.book opened S book_there);
+              ends_left = subst (λ k. Exposures k ends (full s') counts') run.long grows.counts;
+              rings = grows.rings;
+              reached = reaches;
+              few = growths_left;
+              rest = goes_on ∙ run.rest;
             }
-
-        -- what grows, by the names of the book's trees
-        abbrev growing : Set
-        growing = growers (name_of (parents_by b) (lows_of b)) b.figure r.from r.to
-
-        -- a vertex's label is the name of its tree
-        labelled : (v : ℕ) → v < n → label (clusters B s) v ≡ name_of (parents_by b) (lows_of b) v
-        unfolding clusters
-        labelled v h =
-            let lows = subst (λ k. Lows k (parents_by b) (lows_of b)) run.book.vertices run.book.good.lows in
-            ap (λ l. label l v) (names_are B (full s) inside run.book.mirrors lows) ∙ names_label n (parents_by b) (lows_of b) v h
-
-        growing_is : (v : ℕ) → v < n → growing v ≡ named.at v
-        growing_is v h =
-            ap (λ a. not (ltb a r.from) && (ltb a r.to && odd_figure b.figure a)) (sym (labelled v h))
-            ∙ follows.grow named.at named.is v h
-
-        module _ (made : Grown) (s' counts' ring' filled' : List ℕ) (grows : Grows b ends r s made s' counts' ring' filled') where
-          swelled : s' ≡ swell B s named.at
-          swelled =
-              grows.supports
-              ∙ subst₂ (λ i j. swell (plain i j ends) s growing ≡ swell (plain n m ends) s growing) (sym run.book.vertices) (sym run.long) refl
-              ∙ swell_aside n ends _ _ [] opened refl s growing
-              ∙ swell_cong B inside s growing named.at growing_is
-
-          reaches : Reached B policy (ones loss) s' (suc g)
-          reaches = subst (λ z. Reached B policy (ones loss) z (suc g)) (sym swelled) (after run.reached named.is)
-
-          pub run_more : Running x n ends opened syndrome loss s' counts' ring' made.book (suc g)
-          run_more =
-              record {
-                long = (reached_supports B policy (ones loss) reaches).long ∙ length-replicate m 0;
-                book = subst₂ (λ i j. TrueBook (unmarked i j ends opened) S s' made.book) run.book.vertices run.long (grows.book opened S book_there);
-                ends_left = subst (λ k. Exposures k ends (full s') counts') run.long grows.counts;
-                rings = grows.rings;
-                reached = reaches;
-                few = growths_left;
-                rest = goes_on ∙ run.rest;
-              }
-            where
-              -- one step of the run
-              goes_on : grow_from B policy (2 * m - suc g) s' (suc g) ≡ grow_from B policy (2 * m - g) s g
-              goes_on =
-                  let k : suc (2 * m - suc g) ≡ 2 * m - g = omega (arith, growths_left) in
-                  rw swelled (sym (run_grows B policy (2 * m - suc g) s g named.at named.is) ∙ ap (λ z. grow_from B policy z s g) k)
+          where
+            -- one step of the run
+            goes_on : grow_from B policy (2 * m - suc g) s' (suc g) ≡ grow_from B policy (2 * m - g) s g
+            goes_on =
+                let k : suc (2 * m - suc g) ≡ 2 * m - g = omega (arith, growths_left) in
+                rw swelled (sym (run_grows B policy (2 * m - suc g) s g follows.named follows.is) ∙ ap (λ z. grow_from B policy z s g) k)

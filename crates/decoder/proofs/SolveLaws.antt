@@ -17,11 +17,10 @@ use Rattle.model.specs.Outcomes.{answer}
 use Rattle.board.proofs.Calls.{ForDecoding, decode_passes}
 use Rattle.theory.proofs.MarksAside.{unmarked_long, smallest_aside, key_aside, peeled_aside}
 use Rattle.decoder.specs.declared.growing.Growth.{Growth}
-use Rattle.decoder.specs.declared.key.Solved.{Solved}
-use Rattle.decoder.specs.declared.key.Solved.TheVariants.{Key, Refused}
 use Rattle.decoder.specs.Growing.{policy_of}
 use Rattle.decoder.specs.Runs.{bare}
-use Rattle.decoder.specs.Keys.{Keyable, solved_or_none, Keys, Solves}
+use Rattle.std.specs.Prelude.{Ok, Err}
+use Rattle.decoder.specs.Keys.{Keyable, solved_or_none, Keys, Solves, Solving, solved_with}
 use Rattle.decoder.proofs.Policies.{policy_aside}
 
 module _ (n : ℕ) (ends marks opened syndrome loss support written : List ℕ) where
@@ -35,10 +34,10 @@ module _ (n : ℕ) (ends marks opened syndrome loss support written : List ℕ) 
   refusal = decode_refusal sheet support written
 
   -- a test fails
-  pub refuses : (policy : Board → Set → Policy) (r : Refusal) → some r ≡ refusal → Solves policy sheet support written (Refused r) support written
+  pub refuses : (policy : Board → Set → Policy) (r : Refusal) → some r ≡ refusal → Solves policy sheet support written (Err r) support written
   refuses policy r p =
       record {
-        result = ap (λ t. answer t Refused (solved_or_none policy sheet)) p;
+        result = ap (λ t. answer t Err (solved_or_none policy sheet)) p;
         support_bytes = refl;
         correction_bytes = refl;
       }
@@ -87,12 +86,12 @@ module _ (n : ℕ) (ends marks opened syndrome loss support written : List ℕ) 
       solved_is : solved_or_none policy (bare n ends opened syndrome loss) ≡ solved_or_none policy sheet
       unfolding solved_or_none
       solved_is =
-          ap (λ a. answer (odd_part_test (bare n ends opened syndrome loss)) Refused a) (ap₂ Key (ap (λ w. w.count) grown_is) size_is)
-          ∙ ap (λ o. answer (refused_at o none_at) Refused (Key (grown_by policy sheet).count (size board (peeled sheet (grown_by policy sheet)))))
+          ap (λ a. answer (odd_part_test (bare n ends opened syndrome loss)) Err a) (ap₂ solved_with (ap (λ w. w.count) grown_is) size_is)
+          ∙ ap (λ o. answer (refused_at o none_at) Err (solved_with (grown_by policy sheet).count (size board (peeled sheet (grown_by policy sheet)))))
           (sym (smallest_aside n ends marks _ opened same (ones syndrome)))
 
-      result_is : {r : Solved} → r ≡ solved_or_none policy (bare n ends opened syndrome loss) → r ≡ answer refusal Refused (solved_or_none policy sheet)
-      result_is p = p ∙ solved_is ∙ ap (λ t. answer t Refused (solved_or_none policy sheet)) passed
+      result_is : {r : Solving} → r ≡ solved_or_none policy (bare n ends opened syndrome loss) → r ≡ answer refusal Err (solved_or_none policy sheet)
+      result_is p = p ∙ solved_is ∙ ap (λ t. answer t Err (solved_or_none policy sheet)) passed
 
       supports_are : (grown_by policy (bare n ends opened syndrome loss)).support ≡ (grown_by policy sheet).support
       supports_are = ap (λ w. w.support) grown_is
@@ -102,12 +101,12 @@ module _ (n : ℕ) (ends marks opened syndrome loss support written : List ℕ) 
       correction_is = rw (same, peeled_is)
 
       -- the key of the sheet without its marks is that of the sheet
-      pub solves : (r : Solved) (s k : List ℕ) → Keys policy (bare n ends opened syndrome loss) support written r s k
+      pub solves : (r : Solving) (s k : List ℕ) → Keys policy (bare n ends opened syndrome loss) support written r s k
           → Solves policy sheet support written r s k
-      solves (Key g e) s k w =
+      solves (Ok x) s k w =
           record {
             result = result_is w.result;
             support_bytes = w.support_bytes ∙ supports_are;
             correction_bytes = w.correction_bytes ∙ correction_is;
           }
-      solves (Refused x) s k w = record { result = result_is w.result; support_bytes = w.support_bytes; correction_bytes = w.correction_bytes }
+      solves (Err x) s k w = record { result = result_is w.result; support_bytes = w.support_bytes; correction_bytes = w.correction_bytes }

@@ -14,10 +14,10 @@ use Rattle.decoder.specs.Gains.{Supports, with_listed}
 use Rattle.decoder.specs.Figures.{names_by, Lows, name_of, names, Figured}
 use Rattle.decoder.specs.Exposures.{Exposures}
 use Rattle.decoder.specs.LoneFigures.{LoneFigures}
-use Rattle.decoder.specs.EndLists.{EndLists}
+use Rattle.decoder.specs.EndLists.{Listed}
 use Rattle.decoder.specs.Rings.{LoneRings, Rings}
 use Rattle.decoder.specs.Raising.{growers}
-use Rattle.decoder.specs.declared.growing.Growing.{Growing}
+use Rattle.std.specs.declared.ops.Range.{Range}
 use Rattle.decoder.specs.declared.book.Book.{Book}
 use Rattle.decoder.specs.declared.book.Found.{Found}
 use Rattle.decoder.specs.declared.book.Fused.{Fused}
@@ -124,11 +124,11 @@ pub record FusesListed (b : Book) (ends filled : List ℕ) (k : ℕ) (b' : Book)
   pub true_still : KeepsTrue b b'
 
 -- the book is that of the supports, with the rings of its clusters; the counts are theirs; what grows is named
-pub record Growable (b : Book) (ends latest earlier : List ℕ) (r : Growing) (s x ring filled : List ℕ) : Type 0 where
+pub record Growable (b : Book) (ends latest earlier : List ℕ) (r : Range ℕ) (s x ring filled : List ℕ) : Type 0 where
   pub lent : EndsWithin b.vertices (length s) ends
-  pub lists : EndLists ends latest earlier
-  pub ordered : r.from ≤ r.to
-  pub inside : r.to ≤ b.vertices
+  pub lists : Listed ends latest earlier
+  pub ordered : r.start ≤ r.end
+  pub inside : r.end ≤ b.vertices
   pub supports : Supports s
   pub room : length filled ≡ edge_limit
   pub counts : Exposures (length s) ends (full s) x
@@ -139,9 +139,9 @@ pub record Growable (b : Book) (ends latest earlier : List ℕ) (r : Growing) (s
 
 -- document 01's step 4: the supports after the clusters have grown, the book of these supports, whichever vertices are open or lit, with the
 -- rings of its clusters, and how many edges became full
-pub record Grows (b : Book) (ends : List ℕ) (r : Growing) (s : List ℕ) (g : Grown) (s' x' ring' filled' : List ℕ) : Type 0 where
+pub record Grows (b : Book) (ends : List ℕ) (r : Range ℕ) (s : List ℕ) (g : Grown) (s' x' ring' filled' : List ℕ) : Type 0 where
   pub supports :
-      s' ≡ swell (plain b.vertices (length s) ends) s (growers (name_of (parents_by b) (lows_of b)) b.figure r.from r.to)
+      s' ≡ swell (plain b.vertices (length s) ends) s (growers (name_of (parents_by b) (lows_of b)) b.figure r.start r.end)
   pub book :
       (opened : List ℕ) (S : Set) → TrueBook (unmarked b.vertices (length s) ends opened) S s b →
       TrueBook (unmarked b.vertices (length s) ends opened) S s' g.book

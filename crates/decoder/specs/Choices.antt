@@ -1,17 +1,18 @@
 -- The choice of the cluster that grows, by the kept figures. Internal: no part of what a reader of a product call must believe.
 -- Assumes nothing.
-use Rattle.std.specs.Prelude.{ℕ, zero, suc, ◌+◌, ◌≤◌, ◌<◌, ◌≡◌, cond, ◌&&◌, List, length, ltb}
+use Rattle.std.specs.Prelude.{ℕ, zero, suc, ◌+◌, ◌≤◌, ◌<◌, ◌≡◌, cond, ◌&&◌, List, length, ltb, Some, None}
+use Rattle.std.specs.Prelude as prelude
 use Rattle.std.proofs.Math.Option.{Option, none, some}
 use Rattle.model.specs.Sums.{Set}
 use Rattle.model.specs.Board.{vertex_limit}
 use Rattle.union_find.specs.Trees.{at}
 use Rattle.decoder.specs.Figures.{even_mark}
-use Rattle.decoder.specs.declared.choice.Chosen.{Chosen}
-use Rattle.decoder.specs.declared.choice.Chosen.TheVariants.{Cluster, Nothing}
+use Rattle.model.specs.declared.numbers.Vertex.{Vertex}
 
-abbrev pub chosen_of : Chosen → Option ℕ
-chosen_of (Cluster a) = some a.0
-chosen_of Nothing = none
+-- the number of the vertex that is chosen, if any is
+abbrev pub chosen_of : prelude.Option Vertex → Option ℕ
+chosen_of (Some a) = some a.0
+chosen_of None = none
 
 -- a, against the best below it: taken only where it is odd and its size strictly smaller
 abbrev pub lesser : Set → (ℕ → ℕ) → ℕ → Option ℕ → Option ℕ

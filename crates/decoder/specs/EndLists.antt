@@ -22,5 +22,5 @@ pub record ListedUpTo (k : ℕ) (ends latest earlier : List ℕ) : Type 0 where
   pub last : (v : ℕ) → v < vertex_limit → at latest v ≡ latest_end ends v k
   pub before : (i : ℕ) → i < k → at earlier i ≡ latest_end ends (get_or ends i 0) i
 
-abbrev pub EndLists : List ℕ → List ℕ → List ℕ → Type 0
-EndLists ends latest earlier = ListedUpTo (length ends) ends latest earlier
+abbrev pub Listed : List ℕ → List ℕ → List ℕ → Type 0
+Listed ends latest earlier = ListedUpTo (length ends) ends latest earlier

@@ -4,7 +4,7 @@ use Rattle.std.specs.Prelude.{ℕ, ◌+◌, ◌*◌, ◌≤◌, ◌<◌, min, �
 use Rattle.model.specs.Sums.{Set, bit, count_up_to, ones, some_up_to, values}
 use Rattle.model.specs.Board.{vertex_limit, edge_limit, EndsWithin}
 use Rattle.model.specs.Growth.{full}
-use Rattle.decoder.specs.EndLists.{EndLists}
+use Rattle.decoder.specs.EndLists.{Listed}
 
 -- every support is at most 2
 pub record Supports (s : List ℕ) : Type 0 where
@@ -57,7 +57,7 @@ ends_at ends v e = bit (eqb (get_or ends (2 * e) 0) v) + bit (eqb (get_or ends (
 pub record RaisableAt (latest earlier : List ℕ) (v : ℕ) (s filled : List ℕ) (count : ℕ) : Type 0 where
   pub ends : List ℕ
   pub lent : EndsWithin vertex_limit (length s) ends
-  pub lists : EndLists ends latest earlier
+  pub lists : Listed ends latest earlier
   pub vertex : v < vertex_limit
   pub start : List ℕ
   pub gains : ℕ → ℕ

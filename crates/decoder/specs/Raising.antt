@@ -4,8 +4,8 @@ use Rattle.std.specs.Prelude.{ℕ, ◌+◌, ◌*◌, ◌≤◌, ◌<◌, ◌≡�
 use Rattle.model.specs.Sums.{Set, bit}
 use Rattle.model.specs.Board.{vertex_limit, edge_limit, EndsWithin}
 use Rattle.model.specs.Growth.{full}
-use Rattle.decoder.specs.declared.growing.Growing.{Growing}
-use Rattle.decoder.specs.EndLists.{EndLists}
+use Rattle.std.specs.declared.ops.Range.{Range}
+use Rattle.decoder.specs.EndLists.{Listed}
 use Rattle.decoder.specs.Exposures.{Exposures}
 use Rattle.decoder.specs.Figures.{Lows, name_of, odd_figure}
 use Rattle.decoder.specs.Gains.{Supports, Raised}
@@ -17,7 +17,7 @@ use Rattle.decoder.specs.Rings.{Passes, times, Distinct, Rings}
 pub record RingRaisable (latest earlier ring : List ℕ) (a : ℕ) (s filled : List ℕ) (count : ℕ) : Type 0 where
   pub ends : List ℕ
   pub lent : EndsWithin vertex_limit (length s) ends
-  pub lists : EndLists ends latest earlier
+  pub lists : Listed ends latest earlier
   pub long : length ring ≡ vertex_limit
   pub vertex : a < vertex_limit
   pub round : List ℕ
@@ -50,13 +50,13 @@ abbrev pub ends_of : List ℕ → Set → ℕ → ℕ
 ends_of ends R e = bit (R (get_or ends (2 * e) 0)) + bit (R (get_or ends (2 * e + 1) 0))
 
 -- some trees with their names, rings and odd figures, and the supports of some edges with what is counted of their ends
-pub record Raisable (latest earlier figure : List ℕ) (r : Growing) (x ring s filled : List ℕ) : Type 0 where
+pub record Raisable (latest earlier figure : List ℕ) (r : Range ℕ) (x ring s filled : List ℕ) : Type 0 where
   pub vertices : ℕ
   pub parent : List ℕ
   pub low : List ℕ
   pub ends : List ℕ
   pub lent : EndsWithin vertices (length s) ends
-  pub lists : EndLists ends latest earlier
+  pub lists : Listed ends latest earlier
   pub supports : Supports s
   pub room : length filled ≡ edge_limit
   pub counts : Exposures (length s) ends (full s) x
@@ -64,14 +64,14 @@ pub record Raisable (latest earlier figure : List ℕ) (r : Growing) (x ring s f
   pub rings : Rings vertices parent low x ring
   pub figures_long : length figure ≡ vertex_limit
   pub leads : (a : ℕ) → a < vertices → odd_figure figure a ≡ true → name_of parent low a ≡ a
-  pub ordered : r.from ≤ r.to
-  pub inside : r.to ≤ vertices
+  pub ordered : r.start ≤ r.end
+  pub inside : r.end ≤ vertices
 
 -- each edge has gained as many half-edges as it has ends in what grows, and the rings are those of the same trees
-pub record RaisedBy {latest earlier figure : List ℕ} {r : Growing} {x ring s filled : List ℕ}
+pub record RaisedBy {latest earlier figure : List ℕ} {r : Range ℕ} {x ring s filled : List ℕ}
     (w : Raisable latest earlier figure r x ring s filled) (to : ℕ) (count : ℕ) (ring' s' filled' : List ℕ) : Type 0 where
-  pub raised : Raised s (ends_of w.ends (growers (name_of w.parent w.low) figure r.from to)) s' filled' count
+  pub raised : Raised s (ends_of w.ends (growers (name_of w.parent w.low) figure r.start to)) s' filled' count
   pub rings : Rings w.vertices w.parent w.low x ring'
 
-pub record Raises (latest earlier figure : List ℕ) (r : Growing) (x ring s filled : List ℕ) (count : ℕ) (ring' s' filled' : List ℕ) : Type 0 where
-  pub each : (w : Raisable latest earlier figure r x ring s filled) → RaisedBy w r.to count ring' s' filled'
+pub record Raises (latest earlier figure : List ℕ) (r : Range ℕ) (x ring s filled : List ℕ) (count : ℕ) (ring' s' filled' : List ℕ) : Type 0 where
+  pub each : (w : Raisable latest earlier figure r x ring s filled) → RaisedBy w r.end count ring' s' filled'

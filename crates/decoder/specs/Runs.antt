@@ -6,12 +6,17 @@ use Rattle.model.specs.Board.{Board, Sheet, sheet_of, unmarked, EndsWithin, Unli
 use Rattle.model.specs.Sums.{Set, ones}
 use Rattle.model.specs.Growth.{Policy}
 use Rattle.model.specs.Decoding.{smallest_odd, grown_by}
+use Rattle.model.specs.declared.lent.Sheet as lent_sheet
 use Rattle.decoder.specs.declared.growth.Ran.{Ran}
 use Rattle.decoder.specs.Books.{TrueBook}
 
 -- the sheet without its marks
 abbrev pub bare : ℕ → List ℕ → List ℕ → List ℕ → List ℕ → Sheet
 bare n ends opened syndrome loss = sheet_of (unmarked n (length loss) ends opened) syndrome loss
+
+-- the sheet that is lent, without its marks
+abbrev pub bare_lent : lent_sheet.Sheet → Sheet
+bare_lent s = bare s.board.vertices s.board.ends.now s.board.opened.now s.syndrome.now s.loss.now
 
 -- a board that has a correction
 pub record Runnable (n : ℕ) (ends opened syndrome loss s : List ℕ) : Type 0 where

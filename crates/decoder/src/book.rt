@@ -4,16 +4,17 @@ ghost use Rattle.model.specs.Board.{unmarked};
 ghost use Rattle.decoder.specs.LoneFigures.{Lonely};
 ghost use Rattle.decoder.specs.Books.{Fresh, Gatherable, Gathers, Kept, Finds, BothKept, Fuses, Growable, Grows};
 
+use crate::end_lists::EndLists;
 use crate::figure::lone_figures;
-use crate::growing::Growing;
 use crate::labels::apart;
 use crate::merging::merge;
 use crate::raising::raise;
 use crate::rings::join_rings;
 use crate::shutting::shut_listed;
 use model::ends::{first_end, second_end};
-use model::limits::ENDS;
+use model::lent::Sheet;
 use model::numbers::{Edge, HalfEdges, Vertex};
+use std::ops::Range;
 use union_find::{Joined, alone, compress, join, root_of};
 
 // The cluster book: a union-find over the first `vertices` vertices. A vertex's cluster is its tree, and with each cluster its boundary size
@@ -55,18 +56,14 @@ impl Book {
     pub(crate) const EDGES: usize = model::limits::EDGES;
 
     // A fresh book holds every vertex alone. It is on the boundary where an end of an edge that isn't full lies at it.
-    pub(crate) fn fresh(
-        vertices: usize,
-        opened: &[u8],
-        syndrome: &[u8],
-        exposure: &[u16; Self::VERTICES],
-    ) -> Self
-        requires { Lonely vertices opened.now syndrome.now exposure.now }
-        ensures { Fresh vertices opened.now syndrome.now exposure.now result }
+    pub(crate) fn fresh(sheet: Sheet<'_>, exposure: &[u16; Self::VERTICES]) -> Self
+        requires { Lonely sheet.board.vertices sheet.board.opened.now sheet.syndrome.now exposure.now }
+        ensures { Fresh sheet.entry.board.vertices sheet.entry.board.opened.now sheet.entry.syndrome.now exposure.now result }
     {
+        let vertices = sheet.board.vertices;
         let mut tree = [0u16; Self::VERTICES];
         alone(vertices, &mut tree);
-        let figure = lone_figures(vertices, opened, syndrome, exposure);
+        let figure = lone_figures(sheet, exposure);
         Self {
             vertices,
             tree,
@@ -76,26 +73,22 @@ impl Book {
 
     // The book of the clusters that the full edges make: every vertex alone, then the ends of each full edge fused.
     pub(crate) fn gathered(
-        vertices: usize,
-        ends: &[u16],
-        opened: &[u8],
-        syndrome: &[u8],
+        sheet: Sheet<'_>,
         support: &[u8],
         exposure: &[u16; Self::VERTICES],
         ring: &mut [u16; Self::VERTICES],
     ) -> Self
-        requires { Gatherable vertices ends.now opened.now syndrome.now support.now exposure.now ring.old }
-        ensures { Gathers (unmarked vertices (length support.now) ends.now opened.now) (ones syndrome.now)
-            support.now exposure.now result ring.new }
+        requires { Gatherable sheet.board.vertices sheet.board.ends.now sheet.board.opened.now sheet.syndrome.now
+            support.now exposure.now ring.old }
+        ensures { Gathers (unmarked sheet.entry.board.vertices (length support.now) sheet.entry.board.ends.now sheet.entry.board.opened.now)
+            (ones sheet.entry.syndrome.now) support.now exposure.now result ring.new }
     {
-        let mut book = Self::fresh(vertices, opened, syndrome, exposure);
-        let mut e = 0;
-        while e < support.len() {
-            let byte = support[e];
-            let half = HalfEdges(byte);
+        let ends = sheet.board.ends;
+        let mut book = Self::fresh(sheet, exposure);
+        for (e, byte) in support.iter().enumerate() {
+            let half = HalfEdges(*byte);
             if half.is_full() {
-                let number = e as u16;
-                let lost = Edge(number);
+                let lost = Edge(e as u16);
                 let x = first_end(ends, lost);
                 let y = second_end(ends, lost);
                 if apart(&book.tree, x, y) {
@@ -103,7 +96,6 @@ impl Book {
                     book = book.fuse(x, y).book;
                 }
             }
-            e += 1;
         }
         let tree = book.tree;
         let figure = book.figure;
@@ -160,28 +152,24 @@ impl Book {
     pub(crate) fn grow(
         self,
         ends: &[u16],
-        latest: &[u16; Self::VERTICES],
-        earlier: &[u16; ENDS],
-        growing: Growing,
+        lists: &EndLists,
+        growing: Range<usize>,
         support: &mut [u8],
         exposure: &mut [u16; Self::VERTICES],
         ring: &mut [u16; Self::VERTICES],
         filled: &mut [u16; Self::EDGES],
     ) -> Grown
-        requires { Growable self ends.now latest.now earlier.now growing support.old exposure.old ring.old filled.old }
+        requires { Growable self ends.now lists.now.latest lists.now.earlier growing support.old exposure.old ring.old filled.old }
         ensures { Grows self ends.now growing support.old result support.new exposure.new ring.new filled.new }
     {
         let vertices = self.vertices;
         let mut tree = self.tree;
         let mut figure = self.figure;
-        let count = raise(
-            latest, earlier, &figure, growing, exposure, ring, support, filled,
-        );
-        shut_listed(&tree, ends, filled, count, exposure, &mut figure);
-        let mut i = 0;
-        while i < count {
-            let number = filled[i];
-            let edge = Edge(number);
+        let count = raise(lists, &figure, growing, exposure, ring, support, filled);
+        let listed = &filled[..count];
+        shut_listed(&tree, ends, listed, exposure, &mut figure);
+        for number in listed {
+            let edge = Edge(*number);
             let a = first_end(ends, edge);
             let b = second_end(ends, edge);
             if apart(&tree, a, b) {
@@ -195,7 +183,6 @@ impl Book {
                 tree = fused.tree;
                 figure = fused.figure;
             }
-            i += 1;
         }
         let book = Book {
             vertices,

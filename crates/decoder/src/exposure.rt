@@ -24,18 +24,14 @@ pub(crate) fn count_ends(ends: &[u16], support: &[u8], exposure: &mut [u16; VERT
     requires exposures { Exposures 0 ends.now (full support.now) exposure.old }
     ensures { Exposures (length support.now) ends.now (full support.now) exposure.new }
 {
-    let mut e = 0;
-    while e < support.len() {
-        let byte = support[e];
-        let half = HalfEdges(byte);
+    for (e, byte) in support.iter().enumerate() {
+        let half = HalfEdges(*byte);
         if !half.is_full() {
-            let number = e as u16;
-            let edge = Edge(number);
+            let edge = Edge(e as u16);
             let a = first_end(ends, edge);
             let b = second_end(ends, edge);
             count_end(exposure, a);
             count_end(exposure, b);
         }
-        e += 1;
     }
 }

@@ -3,6 +3,7 @@ ghost use Rattle.model.specs.Sums.{bit};
 ghost use Rattle.decoder.specs.Figures.{figure_of, plus_figure};
 ghost use Rattle.decoder.specs.LoneFigures.{Lonely, LoneFigures};
 
+use model::lent::Sheet;
 use model::limits::VERTICES;
 
 // What is kept with a cluster: its boundary size, to which `EVEN` is added where the cluster has an even number of syndrome vertices, and
@@ -56,24 +57,17 @@ impl Figure {
 }
 
 // The figure of each vertex, each alone. By no other number there is one.
-pub(crate) fn lone_figures(
-    vertices: usize,
-    opened: &[u8],
-    syndrome: &[u8],
-    exposure: &[u16; VERTICES],
-) -> [u16; VERTICES]
-    requires { Lonely vertices opened.now syndrome.now exposure.now }
-    ensures { LoneFigures vertices opened.now syndrome.now exposure.now result }
+pub(crate) fn lone_figures(sheet: Sheet<'_>, exposure: &[u16; VERTICES]) -> [u16; VERTICES]
+    requires { Lonely sheet.board.vertices sheet.board.opened.now sheet.syndrome.now exposure.now }
+    ensures { LoneFigures sheet.entry.board.vertices sheet.entry.board.opened.now sheet.entry.syndrome.now exposure.now result }
 {
     let mut figure = [Figure::NONE; VERTICES];
-    let mut v = 0;
-    while v < vertices {
+    for v in 0..sheet.board.vertices {
         let exposed = exposure[v] != 0;
-        let lit = syndrome[v] == 1;
-        let open = opened[v] == 1;
+        let lit = sheet.syndrome[v] == 1;
+        let open = sheet.board.opened[v] == 1;
         let lone = Figure::lone(exposed, lit, open);
         figure[v] = lone.0;
-        v += 1;
     }
     figure
 }

@@ -1,12 +1,13 @@
 ghost use Rattle.decoder.specs.Growing.{policy_of};
-ghost use Rattle.decoder.specs.Runs.{bare, Runnable, Runs};
+ghost use Rattle.decoder.specs.Runs.{bare_lent, Runnable, Runs};
 
 use crate::book::Book;
-use crate::end_lists::list_ends;
+use crate::end_lists::EndLists;
 use crate::exposure::count_ends;
 use crate::growing::{Growth, next};
 use crate::rings::lone_rings;
 use crate::support::lose;
+use model::lent::Sheet;
 use model::limits::{EDGES, ENDS, VERTICES};
 
 // The book after a run, and how many growths or rounds there were.
@@ -18,41 +19,31 @@ pub(crate) struct Ran {
 
 // The supports and the book before any growth; then growths or rounds until no cluster is odd. Which clusters grow next is told by what the
 // book keeps, and the lists of ends and the rings lead to the edges that they touch.
-pub(crate) fn run(
-    growth: Growth,
-    vertices: usize,
-    ends: &[u16],
-    opened: &[u8],
-    syndrome: &[u8],
-    loss: &[u8],
-    support: &mut [u8],
-) -> Ran
-    requires { Runnable vertices ends.now opened.now syndrome.now loss.now support.old }
-    ensures { Runs (policy_of growth) (bare vertices ends.now opened.now syndrome.now loss.now) result support.new }
+pub(crate) fn run(growth: Growth, sheet: Sheet<'_>, support: &mut [u8]) -> Ran
+    requires { Runnable sheet.board.vertices sheet.board.ends.now sheet.board.opened.now sheet.syndrome.now sheet.loss.now
+        support.old }
+    ensures { Runs (policy_of growth) (bare_lent sheet.entry) result support.new }
 {
-    lose(loss, support);
+    let vertices = sheet.board.vertices;
+    let ends = sheet.board.ends;
+    lose(sheet.loss, support);
     let mut exposure = [0u16; VERTICES];
     count_ends(ends, support, &mut exposure);
-    let mut latest = [0u16; VERTICES];
-    let mut earlier = [0u16; ENDS];
-    list_ends(ends, &mut latest, &mut earlier);
+    let mut lists = EndLists {
+        latest: [0u16; VERTICES],
+        earlier: [0u16; ENDS],
+    };
+    lists.list(ends);
     let mut ring = [0u16; VERTICES];
     lone_rings(vertices, &mut ring);
-    let mut book = Book::gathered(
-        vertices, ends, opened, syndrome, support, &exposure, &mut ring,
-    );
+    let mut book = Book::gathered(sheet, support, &exposure, &mut ring);
     let mut filled = [0u16; EDGES];
     let mut count = 0;
-    loop {
-        let following = next(growth, vertices, &book.figure);
-        if following.from == following.to {
-            return Ran { book, count };
-        }
+    while let Some(growing) = next(growth, vertices, &book.figure) {
         let grown = book.grow(
             ends,
-            &latest,
-            &earlier,
-            following,
+            &lists,
+            growing,
             support,
             &mut exposure,
             &mut ring,
@@ -61,4 +52,5 @@ pub(crate) fn run(
         book = grown.book;
         count += 1;
     }
+    Ran { book, count }
 }

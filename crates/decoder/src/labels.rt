@@ -45,12 +45,9 @@ pub(crate) fn labels_of<'a>(
     ensures { Labelled vertices (parents_of tree.now) (names_by figure.now) result }
 {
     let mut labels = [0u16; VERTICES];
-    let mut v = 0;
-    while v < vertices {
-        let number = v as u16;
-        let name = name_of(tree, figure, Vertex(number));
+    for v in 0..vertices {
+        let name = name_of(tree, figure, Vertex(v as u16));
         labels[v] = name.0;
-        v += 1;
     }
     labels
 }
@@ -62,5 +59,5 @@ pub(crate) fn apart(tree: &[u16; VERTICES], a: Vertex, b: Vertex) -> bool
 {
     let x = root_of(tree, a);
     let y = root_of(tree, b);
-    x.0 != y.0
+    x != y
 }

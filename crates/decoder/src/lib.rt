@@ -25,78 +25,37 @@ ghost use Rattle.model.specs.Outcomes.{Decodes, DecodesSoundly};
 ghost use Rattle.model.specs.RoundsOutcomes.{DecodesInRounds, RoundsSoundly};
 
 use crate::growing::Growth;
-use crate::key::Solved;
 use crate::solve::solve;
-use model::answers::{Decoded, RoundsDecoded};
+use model::answers::{Key, RoundsKey};
+use model::lent::Sheet;
+use model::refusal::Refusal;
 
 // The key: the growth count and the number of correction edges, with a support byte and a correction byte for each edge; or a refusal,
 // which writes nothing.
-pub fn decode(
-    vertices: usize,
-    ends: &[u16],
-    marks: &[u8],
-    opened: &[u8],
-    syndrome: &[u8],
-    loss: &[u8],
-    support: &mut [u8],
-    correction: &mut [u8],
-) -> Decoded
-    ensures key { Decodes (sheet_lent vertices ends.now marks.now opened.now syndrome.now loss.now) support.old correction.old
-        result support.new correction.new }
-    ensures sound { DecodesSoundly (sheet_lent vertices ends.now marks.now opened.now syndrome.now loss.now) support.old correction.old
-        result correction.new }
+pub fn decode(sheet: Sheet<'_>, support: &mut [u8], correction: &mut [u8]) -> Result<Key, Refusal>
+    ensures key { Decodes (sheet_lent sheet.entry) support.old correction.old result support.new correction.new }
+    ensures sound { DecodesSoundly (sheet_lent sheet.entry) support.old correction.old result correction.new }
 {
-    match solve(
-        Growth::Weighted,
-        vertices,
-        ends,
-        marks,
-        opened,
-        syndrome,
-        loss,
-        support,
-        correction,
-    ) {
-        Solved::Key { count, edges } => Decoded::Key {
-            growths: count,
-            edges,
-        },
-        Solved::Refused(refusal) => Decoded::Refused(refusal),
-    }
+    let solved = solve(Growth::Weighted, sheet, support, correction)?;
+    Ok(Key {
+        growths: solved.count,
+        edges: solved.edges,
+    })
 }
 
 // The key by rounds, in which all odd clusters grow together: the number of rounds in the place of growths, else as `decode`. What is
 // promised of winding is promised of `decode` alone.
 pub fn decode_rounds(
-    vertices: usize,
-    ends: &[u16],
-    marks: &[u8],
-    opened: &[u8],
-    syndrome: &[u8],
-    loss: &[u8],
+    sheet: Sheet<'_>,
     support: &mut [u8],
     correction: &mut [u8],
-) -> RoundsDecoded
-    ensures key { DecodesInRounds (sheet_lent vertices ends.now marks.now opened.now syndrome.now loss.now) support.old correction.old
-        result support.new correction.new }
-    ensures sound { RoundsSoundly (sheet_lent vertices ends.now marks.now opened.now syndrome.now loss.now) support.old correction.old
-        result support.new correction.new }
+) -> Result<RoundsKey, Refusal>
+    ensures key { DecodesInRounds (sheet_lent sheet.entry) support.old correction.old result support.new correction.new }
+    ensures sound { RoundsSoundly (sheet_lent sheet.entry) support.old correction.old result support.new correction.new }
 {
-    match solve(
-        Growth::Rounds,
-        vertices,
-        ends,
-        marks,
-        opened,
-        syndrome,
-        loss,
-        support,
-        correction,
-    ) {
-        Solved::Key { count, edges } => RoundsDecoded::RoundsKey {
-            rounds: count,
-            edges,
-        },
-        Solved::Refused(refusal) => RoundsDecoded::Refused(refusal),
-    }
+    let solved = solve(Growth::Rounds, sheet, support, correction)?;
+    Ok(RoundsKey {
+        rounds: solved.count,
+        edges: solved.edges,
+    })
 }

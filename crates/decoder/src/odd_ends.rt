@@ -12,16 +12,14 @@ pub(crate) fn odd_ends(labels: &[u16; VERTICES], opened: &[u8], syndrome: &[u8])
 {
     let mut counts = tally(labels, syndrome);
     let mut ends = [0u8; VERTICES];
-    let mut v = 0;
-    while v < syndrome.len() {
+    for (v, lit) in syndrome.iter().enumerate() {
         let a = labels[v] as usize;
         if (opened[v] == 1) & (counts[a] % 2 == 1) {
             ends[v] = 1;
             counts[a] = 0;
         } else {
-            ends[v] = syndrome[v];
+            ends[v] = *lit;
         }
-        v += 1;
     }
     ends
 }

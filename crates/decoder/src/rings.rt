@@ -15,10 +15,8 @@ pub(crate) fn lone_rings(vertices: usize, ring: &mut [u16; VERTICES])
     requires { (vertices ≤ vertex_limit) × (length ring.old ≡ vertex_limit) }
     ensures { LoneRings vertices ring.new }
 {
-    let mut v = 0;
-    while v < vertices {
+    for v in 0..vertices {
         ring[v] = v as u16;
-        v += 1;
     }
 }
 

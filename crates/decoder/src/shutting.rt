@@ -1,10 +1,11 @@
+ghost use Rattle.std.specs.Prelude.{length};
 ghost use Rattle.union_find.specs.Packed.{parents_of};
 ghost use Rattle.decoder.specs.Figures.{names_by};
 ghost use Rattle.decoder.specs.Shutting.{Shuttable, Shuts, ListShuttable, ListShut};
 
 use crate::labels::name_of;
 use model::ends::{first_end, second_end};
-use model::limits::{EDGES, VERTICES};
+use model::limits::VERTICES;
 use model::numbers::{Edge, Vertex};
 
 // One end fewer, of edges that aren't full, lies at the vertex. With the last of them it leaves the boundary of its own cluster.
@@ -27,27 +28,23 @@ fn shut(
     }
 }
 
-// The first `count` listed edges have become full: their ends count no more. No cluster is fused yet.
+// The listed edges have become full: their ends count no more. No cluster is fused yet.
 pub(crate) fn shut_listed(
     tree: &[u16; VERTICES],
     ends: &[u16],
-    filled: &[u16; EDGES],
-    count: usize,
+    listed: &[u16],
     exposure: &mut [u16; VERTICES],
     figure: &mut [u16; VERTICES],
 )
-    requires { ListShuttable (parents_of tree.now) (names_by figure.old) ends.now filled.now count exposure.old figure.old }
-    ensures { ListShut (parents_of tree.now) (names_by figure.old) ends.now filled.now count
+    requires { ListShuttable (parents_of tree.now) (names_by figure.old) ends.now listed.now (length listed.now) exposure.old figure.old }
+    ensures { ListShut (parents_of tree.now) (names_by figure.old) ends.now listed.now (length listed.now)
         exposure.old figure.old exposure.new figure.new }
 {
-    let mut i = 0;
-    while i < count {
-        let number = filled[i];
-        let edge = Edge(number);
+    for number in listed {
+        let edge = Edge(*number);
         let a = first_end(ends, edge);
         let b = second_end(ends, edge);
         shut(tree, a, exposure, figure);
         shut(tree, b, exposure, figure);
-        i += 1;
     }
 }

@@ -1,7 +1,8 @@
 ghost use Rattle.std.specs.Prelude.{◌≡◌, length};
 ghost use Rattle.decoder.specs.Gains.{Liftable, Lifts, RaisableAt, RaisesAt, start_of};
 
-use model::limits::{EDGES, ENDS, VERTICES};
+use crate::end_lists::EndLists;
+use model::limits::EDGES;
 use model::numbers::{Edge, FULL, HalfEdges, Vertex};
 
 // An edge that isn't full gains a half-edge. If it becomes full, it is listed behind the `count` listed ones. The answer is how many are listed
@@ -26,24 +27,23 @@ fn lift(support: &mut [u8], filled: &mut [u16; EDGES], edge: Edge, count: usize)
 
 // Every edge that isn't full gains as many half-edges as it has ends at the vertex, up to 2.
 pub(crate) fn raise_at(
-    latest: &[u16; VERTICES],
-    earlier: &[u16; ENDS],
+    lists: &EndLists,
     vertex: Vertex,
     support: &mut [u8],
     filled: &mut [u16; EDGES],
     count: usize,
 ) -> usize
-    requires { RaisableAt latest.now earlier.now vertex.0 support.old filled.old count }
-    ensures { RaisesAt latest.now earlier.now vertex.0 support.old filled.old count
+    requires { RaisableAt lists.now.latest lists.now.earlier vertex.0 support.old filled.old count }
+    ensures { RaisesAt lists.now.latest lists.now.earlier vertex.0 support.old filled.old count
         result support.new filled.new }
 {
     let mut total = count;
-    let mut place = latest[vertex.0 as usize];
+    let mut place = lists.latest[vertex.0 as usize];
     while place != 0 {
         let end = place - 1;
         let edge = Edge(end / 2);
         total = lift(support, filled, edge, total);
-        place = earlier[end as usize];
+        place = lists.earlier[end as usize];
     }
     total
 }
@@ -53,13 +53,11 @@ pub(crate) fn lose(loss: &[u8], support: &mut [u8])
     requires { length loss.now ≡ length support.old }
     ensures { support.new ≡ start_of loss.now }
 {
-    let mut e = 0;
-    while e < loss.len() {
-        if loss[e] == 1 {
+    for (e, lost) in loss.iter().enumerate() {
+        if *lost == 1 {
             support[e] = FULL.0;
         } else {
             support[e] = 0;
         }
-        e += 1;
     }
 }

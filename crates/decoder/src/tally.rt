@@ -9,13 +9,11 @@ pub(crate) fn tally(labels: &[u16; VERTICES], members: &[u8]) -> [u16; VERTICES]
     ensures { Tallies (length members.now) labels.now members.now result }
 {
     let mut counts = [0u16; VERTICES];
-    let mut v = 0;
-    while v < members.len() {
-        if members[v] == 1 {
+    for (v, member) in members.iter().enumerate() {
+        if *member == 1 {
             let a = labels[v] as usize;
             counts[a] = counts[a] + 1;
         }
-        v += 1;
     }
     counts
 }

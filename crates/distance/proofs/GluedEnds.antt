@@ -4,11 +4,13 @@ use mathlib.Core.Path.{◌≡◌, ap, ◌∙◌, subst}
 use mathlib.Core.Bool.{cond}
 use mathlib.Core.Logic.{◌≢◌}
 use mathlib.Core.List.{List, []}
-use native.Mathlib.Nat.{not-suc-le-zero}
+use native.Mathlib.Nat.{le_refl}
 use native.Mathlib.Omega.{arith}
 use borrow.Author.Tests.{eq-eqb, ne_eqb}
 use lib.ListN.{length, get_or, set, take, length-set}
 use lib.Seq.{get_or-set_same, get_or-set_other, get_or-take, length-take-le}
+use Rattle.std.specs.Prelude.{Option, Some, None, unwrap_or, MatchOption}
+use Rattle.std.specs.List.{AllWithin, HoldsAt}
 use Rattle.model.specs.Sums.{ones, first_up_to, values}
 use Rattle.model.specs.Board.{Board, board_of, without_open, Valid, edge_limit}
 use Rattle.model.specs.Identified.{or_zero, gate, glued, glued_ends, identified}
@@ -16,8 +18,19 @@ use Rattle.model.proofs.SumLaws.{below_suc}
 use Rattle.model.proofs.ListLaws.{values_are}
 use Rattle.model.proofs.EndLaws.{end_in_range}
 use Rattle.theory.proofs.Identified.{identified_valid}
+use Rattle.board.proofs.Searching.{ends_at, ends_nowhere}
 use Rattle.distance.specs.Found.{Shortest}
 use Rattle.distance.specs.Gluing.{Gluable, Glues}
+
+-- the place that is found is the smallest open vertex
+pub gate_found : (opened : List ℕ) (r : Option ℕ) →
+    MatchOption r (AllWithin (λ x. x ≡ 1 → ⊥) opened 0 (length opened))
+    (λ i. (i < length opened) × HoldsAt (λ x. x ≡ 1) opened i × AllWithin (λ x. x ≡ 1 → ⊥) opened 0 i) →
+    unwrap_or r 0 ≡ or_zero (first_up_to (length opened) (ones opened))
+gate_found opened None shut =
+    ap or_zero (ends_nowhere (length opened) (record { out = λ k h. ne_eqb _ 1 (shut k 0 (omega arith) h) }) (le_refl _))
+gate_found opened (Some i) w =
+    ap or_zero (ends_at (length opened) (record { out = λ k h. ne_eqb _ 1 (w.2 k 0 (omega arith) h) }) w.0 (eq-eqb _ 1 (w.1 0)))
 
 module _ (ends opened : List ℕ) where
   abbrev B : Board
@@ -27,9 +40,6 @@ module _ (ends opened : List ℕ) where
   pub record SentUpTo (k : ℕ) (l : List ℕ) : Type 0 where
     pub long : length l ≡ 2 * edge_limit
     pub at : (i : ℕ) → i < k → get_or l i 0 ≡ glued B (get_or ends i 0)
-
-  pub sent_none : (l : List ℕ) → length l ≡ 2 * edge_limit → SentUpTo 0 l
-  sent_none l long = record { long = long; at = λ i h. absurd (not-suc-le-zero h) }
 
   module _ {k : ℕ} {l : List ℕ} (w : SentUpTo k l) (less : k < 2 * edge_limit) where
     more : (x : ℕ) → x ≡ glued B (get_or ends k 0) → SentUpTo (suc k) (set l k x)
@@ -84,6 +94,6 @@ module _ (n : ℕ) (ends marks opened : List ℕ) (valid : Valid (board_of n end
     pub front_valid : Valid (without_open n (take (length ends) l) marks)
     front_valid = rw front_is (identified_valid (board_of n ends marks opened) valid.inside valid)
 
-    pub front_shortest : (best : ℕ) (found : List ℕ) → Shortest (without_open n (take (length ends) l) marks) best found
+    pub front_shortest : (best : Option ℕ) (found : List ℕ) → Shortest (without_open n (take (length ends) l) marks) best found
         → Shortest (identified (board_of n ends marks opened)) best found
     front_shortest best found s = subst (λ k. Shortest (without_open n k marks) best found) front_is s

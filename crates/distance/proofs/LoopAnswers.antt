@@ -1,20 +1,21 @@
 -- From the walks of every start to the distance. The walks are those of the board with as many vertices as there may be: a vertex without
 -- edges changes no walk. Assumes nothing.
 use Prim.Native.Nat.{ℕ, ◌+◌, ◌-◌, ◌≤◌, ◌<◌}
-use mathlib.Core.Path.{◌≡◌, refl, ap, ◌∙◌}
+use mathlib.Core.Path.{◌≡◌, refl, sym, ap, subst, ◌∙◌}
 use mathlib.Core.Bool.{true, false≢true}
 use mathlib.Core.List.{List, [], ◌∷◌}
 use mathlib.Core.Option.{none, some}
-use native.Mathlib.Nat.{le_refl, lt_irrefl, not-suc-le-zero}
+use native.Mathlib.Nat.{le_refl}
 use native.Mathlib.Decide.{dec_lt}
 use native.Mathlib.Omega.{arith}
 use borrow.Author.Count.{below_more}
-use lib.ListN.{length, take, replicate, length-replicate}
+use lib.ListN.{length, take, length-replicate}
+use Rattle.std.specs.Prelude.{Option, Some, None}
+use Rattle.std.proofs.lemmas.Bool.{false_from_ne_true}
 use Rattle.model.specs.Sums.{Set, bytes}
 use Rattle.model.specs.Board.{Board, without_open, Valid, edges, vertex_limit, edge_limit}
 use Rattle.model.specs.Winding.{winds}
 use Rattle.model.specs.Distance.{fewest}
-use Rattle.model.proofs.Xor.{not_true_false}
 use Rattle.model.proofs.SumLaws.{count_bound}
 use Rattle.model.proofs.EndLaws.{within_limit}
 use Rattle.model.proofs.OpenBytes.{zeros_valid}
@@ -27,7 +28,7 @@ use Rattle.theory.proofs.Distances.{none_fewest, Shortest as ShortestWalk, short
 use Rattle.distance.specs.Walking.{no_loop_size}
 use Rattle.distance.specs.States.{padded}
 use Rattle.distance.specs.Search.{NoShorter}
-use Rattle.distance.specs.Found.{ShowsWalk, Improved, Searched, Shortest}
+use Rattle.distance.specs.Found.{bound, ShowsWalk, Improved, Searched, Shortest}
 use Rattle.distance.proofs.ShownBytes.{bytes_long, front_bytes, front_blank}
 
 -- the vertex count does not matter to a walk
@@ -54,10 +55,10 @@ padded_valid valid =
       open_bytes = zeros_valid vertex_limit;
     }
 
--- before the first start
-pub searched_none : {B : Board} {found : List ℕ} → found ≡ replicate edge_limit 0 → Searched B 0 no_loop_size found
-searched_none blank =
-    record { least = λ u h. absurd (not-suc-le-zero h); limit = le_refl _; blank = λ q. blank; shown = λ h. absurd (lt_irrefl _ h) }
+-- a walk stays below one more than the edge limit
+pub bound_limit : (best : Option ℕ) → ((d : ℕ) → best ≡ Some d → d ≤ edge_limit) → bound best ≤ no_loop_size
+bound_limit None h = le_refl _
+bound_limit (Some d) h = omega (arith, h d refl)
 
 -- a smaller bound is shown too
 weaken : {B : Board} {s d c : ℕ} → c ≤ d → NoShorter B s d → NoShorter B s c
@@ -65,23 +66,33 @@ weaken h p = record { least = λ l x w q. omega (arith, p.least l x w q) }
 
 -- one start more
 pub searched_more :
-    {B : Board} {s best best' : ℕ} {found found' : List ℕ} → Searched B s best found → Improved B s best found best' found' →
+    {B : Board} {s : ℕ} {best best' : Option ℕ} {found found' : List ℕ} → Searched B s best found → Improved B s best found best' found' →
     Searched B (s + 1) best' found'
-searched_more {B} {s} {best} {best'} so_far turn =
+searched_more {B} {s} {best} {best'} {found} {found'} so_far turn =
     record {
-      least = below_more (λ u. NoShorter B u best') s (λ u h. weaken turn.no_worse (so_far.least u h)) turn.least;
-      limit = omega (arith, turn.no_worse, so_far.limit);
+      least = below_more (λ u. NoShorter B u (bound best')) s (λ u h. weaken turn.no_worse (so_far.least u h)) turn.least;
+      limit = λ d q.
+          elim (dec_lt (bound best') (bound best)) [
+            | yes l ↦ omega (arith, ap bound q, below)
+            | no l ↦ so_far.limit d (sym (turn.same (as_it_was l)) ∙ q)
+          ];
       blank = λ q.
-          let same : best' ≡ best = omega (arith, turn.no_worse, so_far.limit) in
-          turn.kept same ∙ so_far.blank (omega arith);
-      shown = λ h.
-          elim (dec_lt best' best) [
-            | yes l ↦ turn.shown l
+          let same : bound best' ≡ bound best = omega (arith, ap bound q, below, turn.no_worse) in
+          turn.kept same ∙ so_far.blank (sym (turn.same same) ∙ q);
+      shown = λ d q.
+          elim (dec_lt (bound best') (bound best)) [
+            | yes l ↦ subst (λ k. ShowsWalk B k found') (ap bound q) (turn.shown l)
             | no l ↦
-                let same : best' ≡ best = omega (arith, turn.no_worse) in
-                rw (same, turn.kept same) (so_far.shown (omega arith))
+                let same = as_it_was l in
+                rw (turn.kept same) (so_far.shown d (sym (turn.same same) ∙ q))
           ];
     }
+  where
+    below : bound best ≤ no_loop_size
+    below = bound_limit best so_far.limit
+
+    as_it_was : (bound best' < bound best → ⊥) → bound best' ≡ bound best
+    as_it_was l = omega (arith, turn.no_worse)
 
 -- a walk that crosses a line has an edge
 crossing_long : (B : Board) (x : Line) (l : List ℕ) → walk_crosses B x l ≡ true → 1 ≤ length l
@@ -92,7 +103,7 @@ crossing_long B x (e ∷ l) p = omega arith
 module _
     {n : ℕ}
     {ends marks : List ℕ}
-    {best : ℕ}
+    {best : Option ℕ}
     {found : List ℕ}
     (valid : Valid (without_open n ends marks))
     (all : Searched (padded ends marks) n best found) where
@@ -106,41 +117,48 @@ module _
   shut = without_open_sealed n ends marks
 
   -- closed walks of fewer edges than the best cross each line an even number of times
-  short_unmarked : (k : ℕ) → k < best → ShortWalksUnmarked B k
-  short_unmarked k less = record { unmarked = λ u l h w few x. not_true_false (walk_crosses B x l) (λ c. marked u l h w few x c) }
+  short_unmarked : (k : ℕ) → k < bound best → ShortWalksUnmarked B k
+  short_unmarked k less = record { unmarked = λ u l h w few x. false_from_ne_true (walk_crosses B x l) (λ c. marked u l h w few x c) }
     where
       marked : (u : ℕ) (l : List ℕ) → u < n → Walk B u l u → length l ≤ k → (x : Line) → walk_crosses B x l ≡ true → ⊥
       marked u l h w few x c =
           omega (arith, (all.least u h).least l x (walk_any n vertex_limit ends marks w) (crosses_any vertex_limit n ends marks x l ∙ c))
 
   -- no loop was found: no set winds, for none has more edges than the board
-  nothing_winds : best ≡ no_loop_size → fewest B ≡ none
-  nothing_winds q = none_fewest B (λ D. not_true_false (winds B D) (λ w. large D w))
+  nothing_winds : best ≡ None → fewest B ≡ none
+  nothing_winds q = none_fewest B (λ D. false_from_ne_true (winds B D) (λ w. large D w))
     where
       large : (D : Set) → winds B D ≡ true → ⊥
       large D w =
-          let above = (walks_above_loops B valid.inside shut edge_limit (short_unmarked edge_limit (omega arith))).above D w in
+          let above = (walks_above_loops B valid.inside shut edge_limit (short_unmarked edge_limit (omega (arith, ap bound q)))).above D w in
           omega (arith, count_bound (edges B) D, valid.inside.edges_limited)
 
   -- the walk that is shown is a shortest one
-  shown_shortest : (s : ShowsWalk P best found) → ShortestWalk B s.list
-  shown_shortest s =
-      let crossed = crosses_any n vertex_limit ends marks s.line s.list ∙ s.crossed in
-      let some-edge = crossing_long B s.line s.list crossed in
-      shortest_walk B valid.inside shut s.vertex (best - 1) s.list s.line
-      (walk_any vertex_limit n ends marks s.walk) crossed (omega (arith, s.long)) (short_unmarked (best - 1) (omega (arith, s.long)))
+  module _ (d : ℕ) (q : best ≡ Some d) where
+    abbrev walk_shown : ShowsWalk P d found
+    walk_shown = all.shown d q
 
-  -- the front of the array shows its odd edges
-  shown_front : (s : ShowsWalk P best found) → take (edges B) found ≡ bytes (edges B) (passed_oddly s.list)
-  shown_front s = ap (take (edges B)) s.written ∙ front_bytes (edges B) edge_limit (passed_oddly s.list) valid.inside.edges_limited
+    shown_shortest : ShortestWalk B walk_shown.list
+    shown_shortest =
+        let s = walk_shown in
+        let crossed = crosses_any n vertex_limit ends marks s.line s.list ∙ s.crossed in
+        let some-edge = crossing_long B s.line s.list crossed in
+        let is : bound best ≡ d = ap bound q in
+        shortest_walk B valid.inside shut s.vertex (d - 1) s.list s.line
+        (walk_any vertex_limit n ends marks s.walk) crossed (omega (arith, s.long)) (short_unmarked (d - 1) (omega (arith, s.long)))
+
+    -- the front of the array shows its odd edges
+    shown_front : take (edges B) found ≡ bytes (edges B) (passed_oddly walk_shown.list)
+    shown_front =
+        ap (take (edges B)) walk_shown.written ∙ front_bytes (edges B) edge_limit (passed_oddly walk_shown.list) valid.inside.edges_limited
 
   -- the array is as long as it was
   found_long : length found ≡ edge_limit
-  found_long =
-      elim (dec_lt best no_loop_size) [
-        | yes h ↦ let s = all.shown h in ap length s.written ∙ bytes_long edge_limit (passed_oddly s.list)
-        | no h ↦ ap length (all.blank (omega (arith, all.limit))) ∙ length-replicate {A = ℕ} edge_limit 0
-      ]
+  found_long = go best refl
+    where
+      go : (o : Option ℕ) → best ≡ o → length found ≡ edge_limit
+      go None q = ap length (all.blank q) ∙ length-replicate {A = ℕ} edge_limit 0
+      go (Some d) q = let s = all.shown d q in ap length s.written ∙ bytes_long edge_limit (passed_oddly s.list)
 
   pub searched_all : Shortest B best found
   searched_all =
@@ -149,9 +167,9 @@ module _
         limit = all.limit;
         none = nothing_winds;
         blank = λ q. ap (take (edges B)) (all.blank q) ∙ front_blank (edges B) edge_limit valid.inside.edges_limited;
-        distance = λ h. let s = all.shown h in (shown_shortest s).distance ∙ ap some s.long;
-        loop = λ h.
-            let s = all.shown h in
-            let r = shown_shortest s in
-            record { set = passed_oddly s.list; winding = r.is_winding; fewest = r.count ∙ s.long; written = shown_front s };
+        distance = λ d q. (shown_shortest d q).distance ∙ ap some (all.shown d q).long;
+        loop = λ d q.
+            let s = all.shown d q in
+            let r = shown_shortest d q in
+            record { set = passed_oddly s.list; winding = r.is_winding; fewest = r.count ∙ s.long; written = shown_front d q };
       }

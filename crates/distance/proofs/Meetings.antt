@@ -3,16 +3,16 @@ use Prim.Native.Nat.{ℕ, ◌-◌, ◌/◌}
 use mathlib.Core.Path.{◌≡◌, refl, sym, ◌∙◌}
 use mathlib.Core.Bool.{Bool, true, false}
 use mathlib.Core.List.{List}
-use native.Mathlib.Nat.{le_refl, lt_irrefl}
 use native.Mathlib.Omega.{arith}
+use Rattle.std.specs.Prelude.{Option, Some}
 use Rattle.model.specs.Sums.{bytes}
 use Rattle.model.specs.Board.{Board, Valid, edge_limit}
 use Rattle.theory.proofs.CrossedLines.{Line, line_a, line_b}
 use Rattle.theory.proofs.Walks.{walk_crosses}
 use Rattle.distance.specs.States.{on_a, on_b}
-use Rattle.distance.specs.Search.{home, NoShorter, trail, passed_from}
+use Rattle.distance.specs.Search.{home, trail, passed_from}
 use Rattle.distance.specs.Walking.{Met}
-use Rattle.distance.specs.Found.{ShowsWalk, Improved}
+use Rattle.distance.specs.Found.{bound, ShowsWalk, Improved}
 use Rattle.distance.proofs.StateLaws.{state_parts}
 use Rattle.distance.proofs.Leading.{Leads, trail_leads, trail_length}
 
@@ -51,20 +51,17 @@ met_walk {B} {s} {best} {D} {K} {y} valid met =
           written = refl;
         }
 
--- the best is as it was
-pub not_improved : {B : Board} {s best : ℕ} {found : List ℕ} → NoShorter B s best → Improved B s best found best found
-not_improved least = record { least = least; no_worse = le_refl _; kept = λ q. refl; shown = λ h. absurd (lt_irrefl _ h) }
-
 -- the loop that was met is the best
 pub improved :
-    {B : Board} {s best : ℕ} {D K : ℕ → ℕ} {y : ℕ} {found found' : List ℕ} → Valid B → Met B s best D K y →
-    found' ≡ bytes edge_limit (passed_from B D K y) → Improved B s best found (D y - 1) found'
+    {B : Board} {s : ℕ} {best : Option ℕ} {D K : ℕ → ℕ} {y : ℕ} {found found' : List ℕ} → Valid B → Met B s (bound best) D K y →
+    found' ≡ bytes edge_limit (passed_from B D K y) → Improved B s best found (Some (D y - 1)) found'
 improved {D = D} {y = y} valid met written =
     let long : D y - 1 ≡ met.edges = omega (arith, met.depth) in
     rw long
     (record {
       least = met.least;
       no_worse = omega (arith, met.fewer);
+      same = λ q. absurd (omega (arith, met.fewer));
       kept = λ q. absurd (omega (arith, met.fewer));
       shown = λ h. rw written (met_walk valid met);
     })

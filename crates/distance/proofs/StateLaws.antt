@@ -11,7 +11,6 @@ use Rattle.model.specs.Board.{Board, Valid, edges, first_end, second_end, mark}
 use Rattle.model.specs.Syndrome.{touches}
 use Rattle.model.specs.Winding.{crosses_a, crosses_b}
 use Rattle.model.proofs.Xor.{xor_twice}
-use Rattle.model.proofs.Bits.{bit_bound}
 use Rattle.distance.specs.States.{state, on_a, on_b, other_end, across}
 
 -- the parts of a state
@@ -168,9 +167,6 @@ across_back B y e t = parts (across B y e) (across_vertex B y e) (across_on_a B 
     parts z p q r = unfold across in rw (p, q, r, other_back B e (y / 4) t, xor_twice (on_a y) (crosses_a B e), xor_twice (on_b y) (crosses_b B e))
 
 -- the way it is computed
-
-pub copy_bound : (y m : ℕ) → m ≤ 3 → bit_xor (y % 4) m ≤ 3
-copy_bound y m h = omega (arith, copy_xor y m h, bit_bound (on_a y ⊕ on_a m), bit_bound (on_b y ⊕ on_b m))
 
 pub across_to_second :
     (B : Board) → Valid B → (y e : ℕ) → e < edges B → first_end B e ≡ y / 4 →

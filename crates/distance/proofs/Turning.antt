@@ -1,16 +1,15 @@
 -- The two loops of the walk, turn by turn: what each knows at its head, and how a turn keeps it. Assumes nothing.
 use Prim.Native.Nat.{ℕ, suc, ◌+◌, ◌/◌, ◌≤◌, ◌<◌}
-use mathlib.Core.Path.{◌≡◌, refl, ap, ◌∙◌}
+use mathlib.Core.Path.{◌≡◌, ap, ◌∙◌}
 use mathlib.Core.Bool.{true}
 use mathlib.Core.List.{List}
-use native.Mathlib.Nat.{le_refl}
 use native.Mathlib.Omega.{arith}
 use borrow.Author.Count.{below_more}
 use lib.ListN.{length, set, replicate, length-set, length-replicate, get_or-replicate}
 use Rattle.model.specs.Board.{Board, Valid, edges, vertex_limit}
 use Rattle.model.specs.Syndrome.{touches}
 use Rattle.model.proofs.SumLaws.{count_bound}
-use Rattle.board.specs.Incidence.{Position, entry_count}
+use Rattle.board.specs.Incidence.{Position}
 use Rattle.distance.specs.States.{across, padded, state_limit}
 use Rattle.distance.specs.Search.{at, home, entered, Near, Search, NoShorter}
 use Rattle.distance.specs.Walking.{Whole, Room, New, Old, Ready, Fresh, Met}
@@ -51,12 +50,6 @@ going_start {s = s} {D = D} {Q = Q} ready fresh =
       search = search_start ready.start fresh.none (put_set D (home s) 1 in-depth) (put_set Q 0 (home s) in_queue);
     }
 
--- the places of a vertex's list
-pub list_bound :
-    {ends marks offsets entries : List ℕ} {s best : ℕ} → Ready ends marks offsets entries s best → (v : ℕ) → v < vertex_limit →
-    (at offsets v ≤ entry_count) × (at offsets (v + 1) ≤ entry_count)
-list_bound ready v h = omega (arith, ready.lists.ordered v h, ready.lists.limit v h, ready.valid.inside.edges_limited)
-
 module _
     {ends marks offsets entries : List ℕ}
     {s best : ℕ}
@@ -73,22 +66,6 @@ module _
   -- the walk ends with the queue, or where it is too deep
   pub going_over : (h < t → best ≤ at D (at Q h)) → NoShorter (padded ends marks) s best
   going_over deep = no_shorter going.ready.valid going.ready.start going.search best deep
-
-  -- the head of the queue is looked at
-  pub turning_start :
-      {v : ℕ} → h < t → at D (at Q h) < best → at Q h / 4 ≡ v →
-      Turning ends marks offsets entries s best D K Q h t (at Q h) (at D (at Q h)) v (at offsets v)
-  turning_start some low there =
-      record {
-        going = going;
-        some = some;
-        head = refl;
-        level = refl;
-        low = low;
-        there = there;
-        from = le_refl _;
-        near = λ j l m. absurd (omega arith);
-      }
 
 module _
     {ends marks offsets entries : List ℕ}
@@ -112,9 +89,6 @@ module _
 
     abbrev y : ℕ
     y = across B x e
-
-    pub place_bound : i < entry_count
-    place_bound = omega (arith, list_bound turning.going.ready v vertex)
 
     pub is_edge : e < edges B
     is_edge = turning.going.ready.lists.an_edge v i vertex turning.from l

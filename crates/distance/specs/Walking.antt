@@ -1,10 +1,9 @@
 -- What the functions of the walk do to its arrays. No part of what a reader must believe: the contract of `distance` does not cite it.
 -- Assumes nothing.
-use Rattle.std.specs.Prelude.{ℕ, suc, ◌+◌, ◌/◌, ◌≤◌, ◌<◌, ◌≡◌, Bool, true, false, List, ◌≢◌, length, get_or, set}
+use Rattle.std.specs.Prelude.{ℕ, suc, ◌+◌, ◌/◌, ◌≤◌, ◌<◌, ◌≡◌, Bool, true, false, List, Option, Some, None, ◌≢◌, length, get_or, set}
 use Rattle.model.specs.Board.{Board, Valid, vertex_limit, edge_limit}
 use Rattle.distance.specs.States.{padded, state_limit}
-use Rattle.distance.specs.declared.walk.Meeting.{Meeting}
-use Rattle.distance.specs.declared.walk.Meeting.TheVariants.{At, Nowhere}
+use Rattle.distance.specs.declared.state.State.{State}
 use Rattle.board.specs.Incidence.{Incidence}
 use Rattle.distance.specs.Search.{states, home, Tree, NoShorter}
 
@@ -39,7 +38,7 @@ abbrev pub Entry : List ℕ → List ℕ → List ℕ → ℕ → ℕ → ℕ �
 Entry D K Q t y e d true D' K' Q' t' = New D K Q t y e d D' K' Q' t'
 Entry D K Q t y e d false D' K' Q' t' = Old D K Q t y D' K' Q' t'
 
--- one more than the edge limit: stands for the edges of the best loop as long as none is found
+-- one more than the edge limit: what every loop stays below
 abbrev pub no_loop_size : ℕ
 no_loop_size = suc edge_limit
 
@@ -67,6 +66,6 @@ pub record Met (B : Board) (s best : ℕ) (D K : ℕ → ℕ) (y : ℕ) : Type 0
   pub least : NoShorter B s edges
 
 -- what the walk finds: a loop of fewer edges, or that none is there
-abbrev pub Walked : Board → ℕ → ℕ → (ℕ → ℕ) → (ℕ → ℕ) → Meeting → Type 0
-Walked B s best D K (At y) = Met B s best D K y.0
-Walked B s best D K Nowhere = NoShorter B s best
+abbrev pub Walked : Board → ℕ → ℕ → (ℕ → ℕ) → (ℕ → ℕ) → Option State → Type 0
+Walked B s best D K (Some y) = Met B s best D K y.0
+Walked B s best D K None = NoShorter B s best

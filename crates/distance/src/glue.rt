@@ -13,15 +13,8 @@ fn gate(opened: &[u8]) -> Vertex
     requires { length opened.now ≤ vertex_limit }
     ensures { result.0 ≡ or_zero (first_up_to (length opened.now) (ones opened.now)) }
 {
-    let mut v = 0;
-    while v < opened.len() {
-        if opened[v] == 1 {
-            let number = v as u16;
-            return Vertex(number);
-        }
-        v += 1;
-    }
-    Vertex(0)
+    let first = opened.iter().position(|open| *open == 1);
+    Vertex(first.unwrap_or(0) as u16)
 }
 
 // Each end that is open is sent to the gate, any other stays: the front of `glued` takes them.
@@ -30,14 +23,7 @@ pub fn glue(ends: &[u16], opened: &[u8], glued: &mut [u16; ENDS])
     ensures { Glues ends.now opened.now glued.new }
 {
     let to = gate(opened);
-    let mut i = 0;
-    while i < ends.len() {
-        let v = ends[i];
-        if opened[v as usize] == 1 {
-            glued[i] = to.0;
-        } else {
-            glued[i] = v;
-        }
-        i += 1;
+    for (i, v) in ends.iter().enumerate() {
+        glued[i] = if opened[*v as usize] == 1 { to.0 } else { *v };
     }
 }

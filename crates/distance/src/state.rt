@@ -39,7 +39,7 @@ impl State {
         let second = second_end(ends, edge);
         let e = edge.0 as usize;
         let copy = (self.0 % 4) ^ (marks[e] as u16);
-        if first.0 == self.0 / 4 {
+        if first == self.vertex() {
             let far = 4 * second.0 + copy;
             return State(far);
         }

@@ -4,8 +4,7 @@
 
 ghost use Rattle.std.specs.Prelude.{◌≤◌, length};
 
-use model::answers::{Built, Distance};
-use model::refusal::{number, place};
+use model::lent::Board;
 use std::io;
 
 fn main(rt: HostRuntime) -> io::Result<()> {
@@ -148,23 +147,15 @@ fn show_read(
 }
 
 fn read_ends(digits: &[u8], ends: &mut [u16]) {
-    let mut i = 0;
-    while i < digits.len() && i < ends.len() {
-        ends[i] = wide(digits[i]) % 16;
-        i += 1;
+    for (end, digit) in ends.iter_mut().zip(digits) {
+        *end = u16::from(*digit) % 16;
     }
 }
 
 fn read_marks(digits: &[u8], marks: &mut [u8]) {
-    let mut i = 0;
-    while i < digits.len() && i < marks.len() {
-        marks[i] = digits[i] % 16;
-        i += 1;
+    for (mark, digit) in marks.iter_mut().zip(digits) {
+        *mark = *digit % 16;
     }
-}
-
-fn wide(x: u8) -> u16 {
-    x as u16
 }
 
 // What the ends and marks of a sheet are filled with.
@@ -216,7 +207,7 @@ fn show_filled(
             show(rt, b"ring", n, ends, marks, shown)
         }
         Filling::Torus => {
-            let Built::Vertices(vertices) = torus::torus(n, ends, marks) else {
+            let Ok(vertices) = torus::torus(n, ends, marks) else {
                 return Ok(());
             };
             show(rt, b"torus", vertices, ends, marks, shown)
@@ -229,15 +220,13 @@ fn fill_ring(vertices: usize, ends: &mut [u16], marks: &mut [u8])
     requires { vertices ≤ 1025 }
 {
     let mut v = 0;
-    let mut e = 0;
-    while e < marks.len() && e < ends.len() / 2 {
+    let (pairs, _) = ends.as_chunks_mut::<2>();
+    for (pair, mark) in pairs.iter_mut().zip(marks) {
         let next = after(v, vertices);
-        let i = 2 * e;
-        ends[i] = v as u16;
-        ends[i + 1] = next as u16;
-        marks[e] = if next == 0 { 1 } else { 0 };
+        pair[0] = v as u16;
+        pair[1] = next as u16;
+        *mark = u8::from(next == 0);
         v = next;
-        e += 1;
     }
 }
 
@@ -252,28 +241,34 @@ fn after(v: usize, vertices: usize) -> usize
 
 // One line: the name and the vertex count; D with the distance, or N with number and place; how many bytes of the buffer are 1,
 // 0 and 7; and W where the marks of those that are 1 do not cancel.
-fn show(
+fn show<'a>(
     rt: &impl Print,
     name: &[u8],
     vertices: usize,
-    ends: &[u16],
-    marks: &[u8],
+    ends: &'a [u16],
+    marks: &'a [u8],
     shown: &mut [u8],
 ) -> io::Result<()> {
     rt.write_all(name)?;
     print(rt, b"\t", vertices as u64)?;
     let zeros = [0u8; MOST];
     let n = unopened(vertices);
-    match distance::distance(vertices, ends, marks, &zeros[..n], shown) {
-        Distance::Fewest(edges) => {
+    let board = Board {
+        vertices,
+        ends,
+        marks,
+        opened: &zeros[..n],
+    };
+    match distance::distance(board, shown) {
+        Ok(Some(edges)) => {
             print(rt, b"\tD\t", edges as u64)?;
         }
-        Distance::Nothing => {
+        Ok(None) => {
             rt.write_all(b"\tD\t-")?;
         }
-        Distance::Refused(refusal) => {
-            print(rt, b"\tN\t", number(refusal) as u64)?;
-            print(rt, b"\t", place(refusal) as u64)?;
+        Err(refusal) => {
+            print(rt, b"\tN\t", refusal.number() as u64)?;
+            print(rt, b"\t", refusal.place() as u64)?;
         }
     }
     print(rt, b"\t", count(shown, 1))?;
@@ -292,10 +287,7 @@ const MOST: usize = 1025;
 fn unopened(vertices: usize) -> usize
     ensures { result ≤ 1025 }
 {
-    if vertices < MOST {
-        return vertices;
-    }
-    MOST
+    vertices.min(MOST)
 }
 
 fn print(rt: &impl Print, before: &[u8], n: u64) -> io::Result<()> {
@@ -305,26 +297,16 @@ fn print(rt: &impl Print, before: &[u8], n: u64) -> io::Result<()> {
 
 // How many bytes are x.
 fn count(bytes: &[u8], x: u8) -> u64 {
-    let mut n: u64 = 0;
-    let mut i = 0;
-    while i < bytes.len() {
-        if bytes[i] == x {
-            n = std::num::wrapping_add_u64(n, 1);
-        }
-        i += 1;
-    }
-    n
+    bytes.iter().filter(|byte| **byte == x).count() as u64
 }
 
 // The exclusive or of the marks of the edges shown.
 fn crossings(shown: &[u8], marks: &[u8]) -> u8 {
-    let mut x: u8 = 0;
-    let mut e = 0;
-    while e < shown.len() && e < marks.len() {
-        if shown[e] == 1 {
-            x = x ^ marks[e];
+    let mut x = 0;
+    for (byte, mark) in shown.iter().zip(marks) {
+        if *byte == 1 {
+            x ^= *mark;
         }
-        e += 1;
     }
     x
 }

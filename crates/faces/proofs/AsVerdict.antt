@@ -8,13 +8,13 @@ use mathlib.Core.Option.{none, some}
 use native.Mathlib.Omega.{arith}
 use borrow.Author.Tests.{eq-eqb, le-leb}
 use lib.ListN.{length, length-replicate}
+use Rattle.std.proofs.lemmas.Bool.{and_from}
 use Rattle.model.specs.declared.refusal.Refusal.TheVariants.{BufferLength}
 use Rattle.model.specs.Sums.{or_else}
 use Rattle.model.specs.Board.{Sheet, Valid, vertex_limit, edge_limit}
 use Rattle.model.specs.Torus.{torus}
 use Rattle.model.specs.Refusals.{Test, refusal_of, edges_of, sized, handed_rule, byte_rules, open_rules, bytes_sized, board_sized, plain_rules, faces_sized, torus_byte_rules, faces_refusal, verdict_refusal}
 use Rattle.model.specs.FacesOutcomes.{torus_sheet}
-use Rattle.model.proofs.Xor.{and_both}
 use Rattle.model.proofs.RuleLists.{refusal_append}
 use Rattle.board.proofs.Failures.{passes_each}
 use Rattle.board.proofs.Passing.{valid_ranged, say_open}
@@ -57,7 +57,7 @@ module _ (L : ℕ) (w : SideWithin L) (syndrome loss handed faces : List ℕ) (f
   board_sized_lem : board_sized (torus L) ≡ true
   unfolding torus
   board_sized_lem =
-      and_both _ _ (eq-eqb _ _ (edge_count L ∙ sym half)) (eq-eqb _ _ (length-replicate (L * L) 0))
+      and_from _ _ (eq-eqb _ _ (edge_count L ∙ sym half)) (eq-eqb _ _ (length-replicate (L * L) 0))
 
   -- the tests of the open bytes pass
   open_passes : refusal_of (open_rules X) ≡ none

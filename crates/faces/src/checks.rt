@@ -4,11 +4,11 @@ ghost use Rattle.model.specs.Refusals.{refusal_of, torus_byte_rules, faces_refus
 ghost use Rattle.board.specs.Checks.{test_of};
 ghost use Rattle.torus.specs.Sides.{SideWithin};
 
-use board::bytes::edge_above;
-use board::outcome::{Check, FoundEdge};
+use board::bytes::first_above;
 use board::tests::check_bytes;
-use model::limits::{LARGEST_SIDE, LEAST_SIDE};
+use model::numbers::Edge;
 use model::refusal::Refusal;
+use torus::sides::is_built;
 
 // The tests 3 and 7 to 9, once the side is in range.
 fn check_torus_bytes(
@@ -17,25 +17,25 @@ fn check_torus_bytes(
     loss: &[u8],
     handed: &[u8],
     faces: &[u8],
-) -> Check
+) -> Result<(), Refusal>
     requires { SideWithin side }
     ensures { test_of result ≡ refusal_of
         (torus_byte_rules side syndrome.now loss.now handed.now faces.now) }
 {
     let vertices = side * side;
     let edges = 2 * vertices;
-    let cells = (syndrome.len() == vertices) & (faces.len() == vertices);
-    let sets = (loss.len() == edges) & (handed.len() == edges);
-    if !(cells & sets) {
-        return Check::Failed(Refusal::BufferLength);
+    if syndrome.len() != vertices
+        || faces.len() != vertices
+        || loss.len() != edges
+        || handed.len() != edges
+    {
+        return Err(Refusal::BufferLength);
     }
-    if let Check::Failed(refusal) = check_bytes(syndrome, loss) {
-        return Check::Failed(refusal);
+    check_bytes(syndrome, loss)?;
+    if let Some(e) = first_above::<Edge>(handed, 1) {
+        return Err(Refusal::HandedByte(e));
     }
-    if let FoundEdge::At(e) = edge_above(handed, 1) {
-        return Check::Failed(Refusal::HandedByte(e));
-    }
-    Check::Passed
+    Ok(())
 }
 
 // The side comes first: no length is held to a side that is out of range.
@@ -45,11 +45,11 @@ pub(crate) fn check_faces(
     loss: &[u8],
     handed: &[u8],
     faces: &[u8],
-) -> Check
+) -> Result<(), Refusal>
     ensures { test_of result ≡ faces_refusal side syndrome.now loss.now handed.now faces.now }
 {
-    if side < LEAST_SIDE || side > LARGEST_SIDE {
-        return Check::Failed(Refusal::TorusSide(side));
+    if !is_built(side) {
+        return Err(Refusal::TorusSide(side));
     }
     check_torus_bytes(side, syndrome, loss, handed, faces)
 }

@@ -3,6 +3,7 @@ ghost use Rattle.std.specs.Prelude.{◌≡◌, ◌*◌, length};
 ghost use Rattle.faces.specs.Lent.{OnTorus, TorusLent, Judged};
 
 use model::answers::Verdict;
+use model::lent::{Board, Sheet};
 use model::limits::{TORUS_EDGES, VERTICES};
 use torus::{fill_ends, fill_marks};
 use verdict::compare;
@@ -37,15 +38,15 @@ pub(crate) fn judge(
     )
 }
 
-// Builds the torus and compares, in buffers of the right lengths.
-fn build_and_compare(
+// Builds the torus and compares, in buffers of the right lengths. What makes up the sheet is lent for one lifetime.
+fn build_and_compare<'a>(
     side: usize,
-    syndrome: &[u8],
-    loss: &[u8],
+    syndrome: &'a [u8],
+    loss: &'a [u8],
     handed: &[u8],
-    ends: &mut [u16],
-    marks: &mut [u8],
-    opened: &[u8],
+    ends: &'a mut [u16],
+    marks: &'a mut [u8],
+    opened: &'a [u8],
     support: &mut [u8],
     correction: &mut [u8],
 ) -> Verdict
@@ -55,15 +56,16 @@ fn build_and_compare(
 {
     fill_ends(side, ends);
     fill_marks(side, marks);
-    compare(
-        side * side,
+    let board = Board {
+        vertices: side * side,
         ends,
         marks,
         opened,
+    };
+    let sheet = Sheet {
+        board,
         syndrome,
         loss,
-        handed,
-        support,
-        correction,
-    )
+    };
+    compare(sheet, handed, support, correction)
 }

@@ -12,7 +12,6 @@ ghost use Rattle.faces.specs.Lent.{ForFaces, Answered};
 use crate::checks::check_faces;
 use crate::judging::judge;
 use crate::marking::mark_faces;
-use board::outcome::Check;
 use model::answers::Verdict;
 use model::limits::TORUS_EDGES;
 
@@ -22,7 +21,8 @@ pub fn faces(side: usize, syndrome: &[u8], loss: &[u8], handed: &[u8], faces: &m
     ensures outcome { ShowsFaces side syndrome.now loss.now handed.now faces.old result faces.new }
     ensures sound { FacesSoundly side syndrome.now loss.now handed.now faces.old result faces.new }
 {
-    if let Check::Failed(refusal) = check_faces(side, syndrome, loss, handed, faces) {
+    // No `?`: the verdict's enum has the refusal in a case of its own.
+    if let Err(refusal) = check_faces(side, syndrome, loss, handed, faces) {
         return Verdict::Refused(refusal);
     }
     let edges = 2 * (side * side);

@@ -40,10 +40,7 @@ pub(crate) fn mark_faces(side: usize, handed: &[u8], correction: &[u8], faces: &
     ensures { faces.new ≡ face_bytes side (together (ones handed.now) (ones correction.now)) }
 {
     faces[0] = 0;
-    let mut i = 1;
-    while i < faces.len() {
-        let number = i as u16;
-        faces[i] = mark_of(side, handed, correction, faces, Face(number));
-        i += 1;
+    for i in 1..faces.len() {
+        faces[i] = mark_of(side, handed, correction, faces, Face(i as u16));
     }
 }

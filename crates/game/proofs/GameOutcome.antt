@@ -9,7 +9,6 @@ use borrow.Author.Tests.{eq-eqb, ne_eqb}
 use lib.ListN.{length}
 use Rattle.model.specs.declared.answers.Player.TheVariants.{Winder, Blocker}
 use Rattle.model.specs.declared.answers.Forced.{Forced}
-use Rattle.model.specs.declared.answers.Game.TheVariants.{Named, Refused}
 use Rattle.model.specs.declared.refusal.Refusal.{Refusal}
 use Rattle.model.specs.Board.{Board, edges}
 use Rattle.model.specs.Sums.{count_up_to}
@@ -26,6 +25,7 @@ use Rattle.game.proofs.MaskLaws.{apart_below}
 use Rattle.game.proofs.Moves.{free_unheld}
 use Rattle.game.proofs.Standing.{Stands, winds_alike, blocks_alike}
 use Rattle.game.proofs.SoundPlay.{soundly}
+use Rattle.std.specs.Prelude.{Ok, Err}
 
 -- the masks and the count that the search begins with
 module _ (B : Board) (p loops : List ℕ) (play : Playable B p) (filled : Filled B (2 ^ edges B) loops) {h f : ℕ}
@@ -70,14 +70,14 @@ module _ (B : Board) (p loops : List ℕ) (play : Playable B p) (filled : Filled
 -- The outcome, where the tests refuse and where they pass
 
 module _ (B : Board) (p : List ℕ) where
-  pub refused : {n : Refusal} → game_refusal B p ≡ some n → Plays B p (Refused n) × PlaysSoundly B p (Refused n)
+  pub refused : {n : Refusal} → game_refusal B p ≡ some n → Plays B p (Err n) × PlaysSoundly B p (Err n)
   unfolding game_answer
   refused {n} t =
-      let is : Refused n ≡ game_answer B p = rw t in
-      (record { result = is }, soundly B p (Refused n) is)
+      let is : Err n ≡ game_answer B p = rw t in
+      (record { result = is }, soundly B p (Err n) is)
 
-  pub played : {f : Forced} → game_refusal B p ≡ none → f ≡ forced B p → Plays B p (Named f) × PlaysSoundly B p (Named f)
+  pub played : {f : Forced} → game_refusal B p ≡ none → f ≡ forced B p → Plays B p (Ok f) × PlaysSoundly B p (Ok f)
   unfolding game_answer
   played {f} t q =
-      let is : Named f ≡ game_answer B p = rw t (ap Named q) in
-      (record { result = is }, soundly B p (Named f) is)
+      let is : Ok f ≡ game_answer B p = rw t (ap Ok q) in
+      (record { result = is }, soundly B p (Ok f) is)

@@ -10,14 +10,14 @@ use native.Mathlib.Omega.{arith}
 use borrow.Author.Tests.{leb-true, ltb-false, eqb-true, le-ltb, le-leb, lt-leb, eq-eqb}
 use lib.ListN.{length}
 use lib.Dec.{eqb, leb}
+use Rattle.std.proofs.lemmas.Bool.{or_cases}
 use Rattle.model.specs.declared.refusal.Refusal.TheVariants.{GameEdges, PositionByte, MoveCount}
 use Rattle.model.specs.declared.answers.Player.TheVariants.{Winder, Blocker}
 use Rattle.model.specs.Sums.{or_else}
 use Rattle.model.specs.Board.{Board, edges, edge_limit}
 use Rattle.model.specs.Game.{held_count}
-use Rattle.model.specs.Refusals.{Rule, unless, tested, refusal_of, above, sized, edges_of, game_limit, game_edges_rule, position_rule, move_rule, game_refusal, whole_rules}
+use Rattle.model.specs.Refusals.{Rule, tested, refusal_of, above, sized, edges_of, game_limit, game_edges_rule, position_rule, move_rule, game_refusal, whole_rules}
 use Rattle.model.proofs.RuleLists.{unless_passes, refusal_append}
-use Rattle.theory.proofs.JoinedLabels.{one_of}
 use Rattle.board.proofs.Failures.{neither_fails, each_passes, passes_each}
 use Rattle.board.proofs.Passing.{place_passes, passes_place}
 use Rattle.board.proofs.Validity.{whole_passes, passes_whole, long_enough, enough_long}
@@ -49,11 +49,6 @@ position_allowed B p q =
     let w = whole_passes B (position_sized B p) q in
     omega (arith, long_enough B p w.board.inside w.fit, w.board.inside.edges_limited)
 
--- the test 22, by counts of Winder's and of Blocker's edges
-pub moves_counted : (p : List ℕ) (w b : ℕ) (kept : Bool) → w ≡ held_count Winder p → b ≡ held_count Blocker p
-    → (eqb w b || eqb w (b + 1)) ≡ kept → tested (move_rule p) ≡ unless kept MoveCount
-moves_counted p w b kept winders blockers q = rw (← winders, ← blockers, q)
-
 pub game_passes : (B : Board) (p : List ℕ) → game_refusal B p ≡ none → Playable B p
 game_passes B p q =
     let t = neither_fails (refusal_of (whole_rules B (position_sized B p))) _ (sym (game_tests B p) ∙ q) in
@@ -68,7 +63,7 @@ game_passes B p q =
       bytes = λ i h. ltb-false _ _ (place_passes (length p) (above 2 p) (λ i. PositionByte (record { 0 = i })) e.1.0 i h);
       turns =
           ⊎_elim (λ l. inl (eqb-true _ _ l)) (λ l. inr (eqb-true _ _ l))
-          (one_of level ahead (unless_passes (level || ahead) MoveCount e.1.1.0));
+          (or_cases level ahead (unless_passes (level || ahead) MoveCount e.1.1.0));
     }
 
 -- and the reverse

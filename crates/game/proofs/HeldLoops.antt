@@ -6,16 +6,17 @@ use mathlib.Core.Bool.{Bool, true, false, not, ◌&&◌, ◌||◌, or-true, fals
 use native.Mathlib.Omega.{arith}
 use borrow.Author.Tests.{eqb-true}
 use lib.Dec.{eqb}
+use Rattle.std.proofs.lemmas.Bool.{true_from_ne_false, and_from}
+use Rattle.std.specs.Cmp.{both_ways}
 use Rattle.model.specs.Sums.{Set, some_up_to}
 use Rattle.model.specs.Board.{Board, edges}
 use Rattle.model.specs.Winding.{winds}
 use Rattle.model.specs.Distance.{with}
 use Rattle.model.specs.Words.{bit_of}
 use Rattle.model.specs.Game.{loop_from, holds_loop}
-use Rattle.model.proofs.Xor.{not_false_true, and_left, and_right, and_both}
+use Rattle.model.proofs.Xor.{and_left, and_right}
 use Rattle.model.proofs.SumLaws.{some_found, some_none}
 use Rattle.theory.proofs.CrossedLines.{winds_cong}
-use Rattle.theory.proofs.JoinedLabels.{same_test}
 use Rattle.theory.proofs.FewestSets.{Made, made_with, made_without, made_whole}
 use Rattle.game.proofs.MaskLaws.{bits_without}
 
@@ -80,7 +81,7 @@ holds_more B H G w p =
 -- only the edges of the board matter
 pub holds_cong : (B : Board) (H G : Set) → ((e : ℕ) → e < edges B → H e ≡ G e) → holds_loop B H ≡ holds_loop B G
 holds_cong B H G same =
-    same_test (holds_loop B H) (holds_loop B G)
+    both_ways (holds_loop B H) (holds_loop B G)
     (holds_more B H G (record { at = λ e h q. sym (same e h) ∙ q }))
     (holds_more B G H (record { at = λ e h q. same e h ∙ q }))
 
@@ -102,7 +103,7 @@ module _ (B : Board) (x : ℕ) (within : x < 2 ^ edges B) where
       left e h p q =
           false≢true
           (sym (some_none m (λ e. bit_of x e && holds_loop B (bit_of (x - 2 ^ e))) none e h)
-          ∙ and_both (bit_of x e) (holds_loop B (bit_of (x - 2 ^ e))) p
+          ∙ and_from (bit_of x e) (holds_loop B (bit_of (x - 2 ^ e))) p
           (loop_holds B (bit_of (x - 2 ^ e))
           (record { loop = l.loop; within = record { at = λ i k r. rest i k r (eqb i e) refl }; winding = l.winding })))
         where
@@ -111,7 +112,7 @@ module _ (B : Board) (x : ℕ) (within : x < 2 ^ edges B) where
           rest i k r false s = bits_without m x e within h p i k ∙ ap (λ b. bit_of x i && not b) s ∙ and-true (bit_of x i) ∙ l.within.at i k r
 
       same : (e : ℕ) → e < m → bit_of x e ≡ l.loop e
-      same e h = same_test (bit_of x e) (l.loop e) (λ p. not_false_true (l.loop e) (λ q. left e h p q)) (l.within.at e h)
+      same e h = both_ways (bit_of x e) (l.loop e) (λ p. true_from_ne_false (l.loop e) (λ q. left e h p q)) (l.within.at e h)
 
   -- a set contains a loop where one with an edge less does, and else exactly where it winds
   pub holds_less_lem : holds_less B x ≡ true → holds_loop B (bit_of x) ≡ true
@@ -127,6 +128,6 @@ module _ (B : Board) (x : ℕ) (within : x < 2 ^ edges B) where
 
   pub holds_whole : holds_less B x ≡ false → holds_loop B (bit_of x) ≡ winds B (bit_of x)
   holds_whole none =
-      same_test (holds_loop B (bit_of x)) (winds B (bit_of x))
+      both_ways (holds_loop B (bit_of x)) (winds B (bit_of x))
       (λ p. less_or_whole (loop_found B (bit_of x) p) none)
       (λ q. loop_holds B (bit_of x) (record { loop = bit_of x; within = record { at = λ e h r. r }; winding = q }))

@@ -1,6 +1,7 @@
 pub mod MaskLaws
 pub mod HeldLoops
 pub mod LoopBytes
+pub mod RangeTests
 pub mod WoundSets
 pub mod PlayLaws
 pub mod Moves

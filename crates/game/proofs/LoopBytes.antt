@@ -3,13 +3,11 @@ use Prim.Native.Nat.{ℕ, ◌+◌, ◌-◌, ◌^◌, ◌≤◌, ◌<◌}
 use mathlib.Core.Path.{◌≡◌, refl, sym, ap, ◌∙◌}
 use mathlib.Core.Bool.{Bool, true, false, ◌&&◌}
 use mathlib.Core.List.{List}
-use native.Mathlib.Nat.{not-suc-le-zero}
 use native.Mathlib.Omega.{arith}
-use lib.ListN.{length, set, length-set}
+use lib.ListN.{set, length-set}
 use lib.Dec.{eqb}
 use lib.Pow.{pow_mono, pow_pos}
 use lib.Seq.{get_or-set_same, get_or-set_other}
-use mir.Val.{bool_byte}
 use Rattle.model.specs.Sums.{bit, ones, some_up_to}
 use Rattle.model.specs.Board.{Board, edges}
 use Rattle.model.specs.Winding.{winds}
@@ -18,7 +16,6 @@ use Rattle.model.specs.Game.{holds_loop}
 use Rattle.model.specs.Refusals.{game_limit}
 use Rattle.model.proofs.Bits.{eqb_bit}
 use Rattle.model.proofs.SumLaws.{below_suc, some_cong}
-use Rattle.board.proofs.MaskBytes.{cast_bit}
 use Rattle.game.specs.Searching.{set_limit}
 use Rattle.game.specs.LoopTable.{Filled}
 use Rattle.game.proofs.MaskLaws.{power_within}
@@ -27,9 +24,6 @@ use Rattle.game.proofs.HeldLoops.{holds_less, holds_less_lem, holds_whole}
 -- every mask has a byte
 pub set_inside : (m x : ℕ) → m ≤ game_limit → x < 2 ^ m → x < set_limit
 set_inside m x few h = let all : 2 ^ m ≤ 2 ^ 10 = pow_mono {i = m} {j = 10} few in omega arith
-
-pub filled_none : (B : Board) {loops : List ℕ} → length loops ≡ set_limit → Filled B 0 loops
-filled_none B long = record { long = long; at = λ x h. absurd (not-suc-le-zero h) }
 
 pub filled_more : {B : Board} {x b : ℕ} {loops : List ℕ} → b ≡ bit (holds_loop B (bit_of x)) → x < set_limit → Filled B x loops
     → Filled B (x + 1) (set loops x b)
@@ -41,9 +35,6 @@ filled_more {B} {x} {b} {loops} is room f =
           (λ last. rw last (get_or-set_same loops x b 0 (omega (arith, f.long)) ∙ is));
     }
 
-pub filled_all : {B : Board} {x k : ℕ} {loops : List ℕ} → x ≡ k → Filled B x loops → Filled B k loops
-filled_all same f = rw (← same) f
-
 -- the bytes of the masks with an edge less say whether such a set contains a loop
 module _ (B : Board) (x : ℕ) (within : x < 2 ^ edges B) {loops : List ℕ} (f : Filled B x loops) where
   less_byte : (e : ℕ) (t : Bool) → bit_of x e ≡ t → (t && ones loops (x - 2 ^ e)) ≡ (t && holds_loop B (bit_of (x - 2 ^ e)))
@@ -54,9 +45,9 @@ module _ (B : Board) (x : ℕ) (within : x < 2 ^ edges B) {loops : List ℕ} (f 
   less_bytes : some_up_to (edges B) (λ e. bit_of x e && ones loops (x - 2 ^ e)) ≡ holds_less B x
   less_bytes = some_cong (edges B) _ _ (λ e h. less_byte e (bit_of x e) refl)
 
-  pub looped_less : some_up_to (edges B) (λ e. bit_of x e && ones loops (x - 2 ^ e)) ≡ true → 1 ≡ bit (holds_loop B (bit_of x))
-  looped_less p = sym (ap bit (holds_less_lem B x within (sym less_bytes ∙ p)))
+  pub looped_less : some_up_to (edges B) (λ e. bit_of x e && ones loops (x - 2 ^ e)) ≡ true → true ≡ holds_loop B (bit_of x)
+  looped_less p = sym (holds_less_lem B x within (sym less_bytes ∙ p))
 
   pub looped_whole : (r : Bool) → some_up_to (edges B) (λ e. bit_of x e && ones loops (x - 2 ^ e)) ≡ false → r ≡ winds B (bit_of x)
-      → bool_byte r ≡ bit (holds_loop B (bit_of x))
-  looped_whole r p q = cast_bit r ∙ ap bit (q ∙ sym (holds_whole B x within (sym less_bytes ∙ p)))
+      → r ≡ holds_loop B (bit_of x)
+  looped_whole r p q = q ∙ sym (holds_whole B x within (sym less_bytes ∙ p))

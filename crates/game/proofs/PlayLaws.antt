@@ -1,7 +1,7 @@
 -- What the two functions that call each other find, a step at a time (specs, `wind_from` and `block_from`). Assumes nothing.
 use Prim.Native.Nat.{ℕ, zero, suc, ◌+◌, ◌-◌, ◌^◌, ◌≤◌, ◌<◌}
 use mathlib.Core.Path.{◌≡◌, refl, sym, ap, ◌∙◌}
-use mathlib.Core.Bool.{true, false, ◌&&◌}
+use mathlib.Core.Bool.{true, ◌&&◌}
 use mathlib.Core.Logic.{◌≢◌}
 use mathlib.Core.List.{List}
 use native.Mathlib.Omega.{arith}
@@ -80,13 +80,6 @@ module _ (loops : List ℕ) (m h f : ℕ) where
     pub block_judged : r ≡ wind_from k loops m h (f - edge) → block_keeps k e ≡ forced_by Blocker r
     block_judged p = rw free (sym (ap (forced_by Blocker) (p ∙ ap (λ x. wind_from k loops m h (f - x)) power)))
 
-  -- an edge that isn't free keeps nothing
-  pub wind_held : (k e : ℕ) → bit_of f e ≡ false → wind_keeps k e ≡ false
-  wind_held k e p = rw p
-
-  pub block_held : (k e : ℕ) → bit_of f e ≡ false → block_keeps k e ≡ false
-  block_held k e p = rw p
-
   -- No mask that is reached lies past the table.
   module _ {k : ℕ} (s : Searchable loops m h f k) where
     few_sets : 2 ^ m ≤ set_limit
@@ -97,9 +90,6 @@ module _ (loops : List ℕ) (m h f : ℕ) where
 
     -- where an edge is taken, there is room still, and one edge less is free
     module _ (e : ℕ) (below : e < m) (free : bit_of f e ≡ true) where
-      pub more_inside : h + 2 ^ e < set_limit
-      more_inside = omega (arith, s.room, few_sets, power_within f e free)
-
       less_free : (edge : ℕ) → edge ≡ 2 ^ e → k - 1 ≡ count_up_to m (bit_of (f - edge))
       less_free edge power =
           let within : f < 2 ^ m = omega (arith, s.room) in

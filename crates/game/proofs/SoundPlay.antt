@@ -13,8 +13,6 @@ use Rattle.model.specs.declared.answers.Player.{Player}
 use Rattle.model.specs.declared.answers.Player.TheVariants.{Winder, Blocker}
 use Rattle.model.specs.declared.answers.Forced.{Forced}
 use Rattle.model.specs.declared.answers.Forced.TheVariants.{Taking, Waiting}
-use Rattle.model.specs.declared.answers.Game.{Game}
-use Rattle.model.specs.declared.answers.Game.TheVariants.{Named, Refused}
 use Rattle.model.specs.Board.{Board, edges}
 use Rattle.model.specs.Game.{is_free, free_count, held_count, taken, other, mover, over, won_by, winner, to_move, forced}
 use Rattle.model.specs.Replies.{Takeable, WinsBy, edge_shown, shown}
@@ -28,6 +26,8 @@ use Rattle.game.specs.Playable.{Playable}
 use Rattle.game.proofs.Moves.{taken_long, byte_taken}
 use Rattle.game.proofs.GameTests.{game_passes, passes_game}
 use Rattle.game.proofs.Strategies.{Turn, turn_mover, turn_next, forced_is, Course, ended, chosen, lost, course, wins, loses, exclusive}
+use Rattle.model.specs.Answers.{Game}
+use Rattle.std.specs.Prelude.{Ok, Err}
 
 -- Of what a position comes to
 
@@ -100,18 +100,18 @@ module _ (B : Board) (p : List ℕ) (play : Playable B p) where
 
 -- the answer of a position that is not refused
 abbrev in_named : Forced → Game → Forced
-in_named d (Named f) = f
-in_named d (Refused n) = d
+in_named d (Ok f) = f
+in_named d (Err n) = d
 
 module _ (B : Board) (p : List ℕ) (r : Game) (answered : r ≡ game_answer B p) where
   -- where it is not a refusal, the tests are passed
-  unrefused : (f : Forced) → r ≡ Named f → game_refusal B p ≡ none
+  unrefused : (f : Forced) → r ≡ Ok f → game_refusal B p ≡ none
   unfolding game_answer
-  unrefused f q = answer_passed (game_refusal B p) (Named (forced B p)) r answered (λ n s. zero_one (cc))
+  unrefused f q = answer_passed (game_refusal B p) (Ok (forced B p)) r answered (λ n s. zero_one (cc))
 
-  passed : (f : Forced) → r ≡ Named f → Playable B p × (f ≡ forced B p)
+  passed : (f : Forced) → r ≡ Ok f → Playable B p × (f ≡ forced B p)
   unfolding game_answer
-  passed f q = (game_passes B p (unrefused f q), ap (in_named f) (sym q ∙ answered ∙ ap (λ t. answer t Refused (Named (forced B p))) (unrefused f q)))
+  passed f q = (game_passes B p (unrefused f q), ap (in_named f) (sym q ∙ answered ∙ ap (λ t. answer t Err (Ok (forced B p))) (unrefused f q)))
 
   pub soundly : PlaysSoundly B p r
   soundly =

@@ -6,6 +6,7 @@ use mathlib.Core.List.{List}
 use mathlib.Core.Option.{Option, none, some}
 use lib.Dec.{eqb}
 use lib.ListN.{take, replicate}
+use Rattle.std.proofs.lemmas.List.{take-replicate}
 use Rattle.model.specs.Sums.{Set, ◌⊕◌, ones, bytes, first_up_to}
 use Rattle.model.specs.Board.{Board, edges, ValidBytes}
 use Rattle.model.specs.Syndrome.{syndrome}
@@ -14,7 +15,7 @@ use Rattle.model.specs.Verdict.{differs, judged_at, judged}
 use Rattle.model.specs.Words.{bit_of}
 use Rattle.model.proofs.Xor.{xor_false}
 use Rattle.model.proofs.SumLaws.{some_here, none_some, none_first, first_found}
-use Rattle.model.proofs.ListLaws.{front_replicate, zero_everywhere, ones_bytes, bytes_valid}
+use Rattle.model.proofs.ListLaws.{zero_everywhere, ones_bytes, bytes_valid}
 use Rattle.model.proofs.OpenBytes.{zeros_valid}
 use Rattle.theory.proofs.CrossedLines.{crossings_cong, winds_cong}
 use Rattle.verdict.specs.Judging.{Judgeable, is_wound}
@@ -23,10 +24,10 @@ use Rattle.game.specs.LoopTable.{Small}
 -- the front of an array of zeros: bytes of no vertex, and of no edge
 module _ (n k : ℕ) (h : n ≤ k) where
   zeros_out : (i : ℕ) → ones (take n (replicate k 0)) i ≡ false
-  zeros_out i = rw (front_replicate n k 0 h) (ap (λ x. eqb x 1) (zero_everywhere n i))
+  zeros_out i = rw (take-replicate {X = ℕ} n k 0 h) (ap (λ x. eqb x 1) (zero_everywhere n i))
 
   front_valid : ValidBytes n (take n (replicate k 0))
-  front_valid = rw (front_replicate n k 0 h) (zeros_valid n)
+  front_valid = rw (take-replicate {X = ℕ} n k 0 h) (zeros_valid n)
 
 module _ (B : Board) (S C H : Set) (unlit : (v : ℕ) → v < B.vertices → S v ≡ false) (empty : (e : ℕ) → e < edges B → C e ≡ false) where
   differs_at : (v : ℕ) → v < B.vertices → (syndrome B H v ⊕ S v) ≡ syndrome B H v

@@ -16,11 +16,9 @@ pub(crate) fn mask(position: &[u8], value: u8) -> usize
     requires { length position.now ≤ game_limit }
     ensures { result ≡ number_with (length position.now) (λ e. eqb (get_or position.now e 0) value) }
 {
-    let mut k = position.len();
     let mut number = 0;
-    while k > 0 {
-        k -= 1;
-        number = 2 * number + (position[k] == value) as usize;
+    for k in (0..position.len()).rev() {
+        number = 2 * number + usize::from(position[k] == value);
     }
     number
 }

@@ -1,8 +1,7 @@
 // Who can force the win, by two functions that call each other: Winder's choice is judged by Blocker's best reply, and the reverse. One
 // edge less is free at each call, so that no more than ten are under way inside the first.
 ghost use Rattle.std.specs.Prelude.{◌≡◌};
-ghost use Rattle.model.specs.Game.{same, forced_by};
-ghost use Rattle.model.specs.declared.answers.Player.TheVariants.{Winder, Blocker};
+ghost use Rattle.model.specs.Game.{forced_by};
 ghost use Rattle.game.specs.Searching.{Searchable, wind_from, block_from};
 
 use crate::masks::Masks;
@@ -11,41 +10,12 @@ use model::answers::{Forced, Player};
 use model::limits::GAME_SETS;
 use model::numbers::Edge;
 
-// Says whether a player is Winder, whether Blocker.
-fn is_winder(player: Player) -> bool
-    ensures { result ≡ same Winder player }
-{
-    match player {
-        Player::Winder => true,
-        Player::Blocker => false,
-    }
-}
-
-fn is_blocker(player: Player) -> bool
-    ensures { result ≡ same Blocker player }
-{
-    match player {
-        Player::Winder => false,
-        Player::Blocker => true,
-    }
-}
-
-// Says whether Winder can force the win, whether Blocker can.
-fn winder_wins(forced: Forced) -> bool
-    ensures { result ≡ forced_by Winder forced }
+// Says whether a player can force the win.
+fn can_force(player: Player, forced: Forced) -> bool
+    ensures { result ≡ forced_by player forced }
 {
     match forced {
-        Forced::Taking(player, _) => is_winder(player),
-        Forced::Waiting(player) => is_winder(player),
-    }
-}
-
-fn blocker_wins(forced: Forced) -> bool
-    ensures { result ≡ forced_by Blocker forced }
-{
-    match forced {
-        Forced::Taking(player, _) => is_blocker(player),
-        Forced::Waiting(player) => is_blocker(player),
+        Forced::Taking(winner, _) | Forced::Waiting(winner) => player == winner,
     }
 }
 
@@ -64,8 +34,7 @@ pub(crate) fn wind(loops: &[u8; GAME_SETS], edges: usize, masks: Masks) -> Force
         return Forced::Waiting(Player::Blocker);
     }
     let left = masks.left - 1;
-    let mut e = 0;
-    while e < edges {
+    for e in 0..edges {
         if has(free, e) {
             let edge = alone(e);
             let more = held + edge;
@@ -75,12 +44,10 @@ pub(crate) fn wind(loops: &[u8; GAME_SETS], edges: usize, masks: Masks) -> Force
                 free: rest,
                 left,
             };
-            if winder_wins(block(loops, edges, next)) {
-                let number = e as u16;
-                return Forced::Taking(Player::Winder, Edge(number));
+            if can_force(Player::Winder, block(loops, edges, next)) {
+                return Forced::Taking(Player::Winder, Edge(e as u16));
             }
         }
-        e += 1;
     }
     Forced::Waiting(Player::Blocker)
 }
@@ -100,8 +67,7 @@ pub(crate) fn block(loops: &[u8; GAME_SETS], edges: usize, masks: Masks) -> Forc
         return Forced::Waiting(Player::Blocker);
     }
     let left = masks.left - 1;
-    let mut e = 0;
-    while e < edges {
+    for e in 0..edges {
         if has(free, e) {
             let edge = alone(e);
             let rest = free - edge;
@@ -110,12 +76,10 @@ pub(crate) fn block(loops: &[u8; GAME_SETS], edges: usize, masks: Masks) -> Forc
                 free: rest,
                 left,
             };
-            if blocker_wins(wind(loops, edges, next)) {
-                let number = e as u16;
-                return Forced::Taking(Player::Blocker, Edge(number));
+            if can_force(Player::Blocker, wind(loops, edges, next)) {
+                return Forced::Taking(Player::Blocker, Edge(e as u16));
             }
         }
-        e += 1;
     }
     Forced::Waiting(Player::Winder)
 }

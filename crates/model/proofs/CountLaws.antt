@@ -57,10 +57,7 @@ nth (suc n) f k h =
     last : ¬ (k < count_up_to n f) → (b : Bool) → f n ≡ b → Nth (suc n) f k
     last l true p =
         record { at = n; less = le_refl _; holds = p; before = omega (arith, ap bit p) }
-    last l false p = absurd (none_left (ap bit p))
-      where
-        none_left : bit (f n) ≡ 0 → ⊥
-        none_left z = omega arith
+    last l false p = absurd (omega (arith, ap bit p))
 
 -- the first number apart
 pub count_first : (n : ℕ) (f : Set) → count_up_to (suc n) f ≡ bit (f 0) + count_up_to n (λ i. f (suc i))
@@ -96,10 +93,7 @@ count_room zero i f h p = absurd (not-suc-le-zero h)
 count_room (suc n) i f h p =
     below_suc n i h
     (λ l. omega (arith, count_room n i f l p, bit_bound (f n)))
-    (λ q. rw (sym_last q) (omega (arith, count_bound n f)))
-  where
-    sym_last : i ≡ n → f n ≡ false
-    sym_last q = rw q at p
+    (λ q. rw (rw q at p) (omega (arith, count_bound n f)))
 
 -- one number more is counted
 pub count_more : (n i : ℕ) (f g : Set) → i < n → f i ≡ false → g i ≡ true → ((j : ℕ) → j ≢ i → g j ≡ f j) → count_up_to n g ≡ suc (count_up_to n f)

@@ -9,6 +9,7 @@ use lib.ListN.{length, get_or, set, take, replicate, length-replicate}
 use borrow.Author.Tests.{eqb-true, eqb-false}
 use lib.Seq.{ext_get_or, get_or-set_same, get_or-set_other, sets}
 use lib.Dec.{eqb}
+use Rattle.std.proofs.lemmas.List.{take-replicate}
 use Rattle.model.specs.Sums.{Set, bit, values, ones, bytes}
 use Rattle.model.specs.Board.{ValidBytes}
 use Rattle.model.proofs.Bits.{eqb_bit, bit_bound}
@@ -68,14 +69,9 @@ get_d_set {A} l i j a d h = go (eqb i j) refl
     go true p = rw (sym (eqb-true i j p)) (get_or-set_same l i a d h)
     go false p = get_or-set_other l i j a d (λ q. eqb-false i j p (sym q))
 
--- the front of an array of one value is one of that value, and has its length
-pub front_replicate : (m n x : ℕ) → m ≤ n → take m (replicate n x) ≡ replicate m x
-front_replicate zero n x h = refl
-front_replicate (suc m) zero x h = absurd (not-suc-le-zero h)
-front_replicate (suc m) (suc n) x h = ap (λ l. x ∷ l) (front_replicate m n x (le_of_suc-le-suc h))
-
+-- the front of an array of one value has its length
 pub front_long : (m n x : ℕ) → m ≤ n → length (take m (replicate n x)) ≡ m
-front_long m n x h = ap length (front_replicate m n x h) ∙ length-replicate m x
+front_long m n x h = ap length (take-replicate m n x h) ∙ length-replicate m x
 
 -- entries stored behind others that were stored
 pub sets_append : (xs ys l : List ℕ) (i : ℕ) → sets (sets l i xs) (i + length xs) ys ≡ sets l i (xs ++ ys)

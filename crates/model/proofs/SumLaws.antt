@@ -8,8 +8,9 @@ use native.Mathlib.Nat.{le_refl, le_of_suc-le-suc, not-suc-le-zero, eq-or-lt_of_
 use native.Mathlib.Omega.{arith}
 use borrow.Author.Tests.{eq-eqb, ne_eqb}
 use lib.Dec.{eqb}
+use Rattle.std.proofs.lemmas.Bool.{false_from_ne_true, or_right}
 use Rattle.model.specs.Sums.{Set, ◌⊕◌, bit, odd_up_to, count_up_to, some_up_to, or_else, first_up_to}
-use Rattle.model.proofs.Xor.{xor_false, xor_assoc, xor_swap, and_xor, not_true_false}
+use Rattle.model.proofs.Xor.{xor_false, xor_assoc, xor_swap, and_xor}
 use Rattle.model.proofs.Bits.{bit_bound}
 
 -- i below suc n is below n, or n itself
@@ -140,18 +141,14 @@ pub some_here : (n i : ℕ) (f : Set) → i < n → f i ≡ true → some_up_to 
 unfolding some_up_to
 some_here zero i f h p = absurd (not-suc-le-zero h)
 some_here (suc n) i f h p =
-    below_suc n i h (λ l. rw (some_here n i f l p)) (λ q. last (some_up_to n f) (f n) (rw q at p))
-  where
-    last : (x y : Bool) → y ≡ true → (x || y) ≡ true
-    last true y p = refl
-    last false y p = p
+    below_suc n i h (λ l. rw (some_here n i f l p)) (λ q. or_right (some_up_to n f) (f n) (rw q at p))
 
 pub some_none : (n : ℕ) (f : Set) → some_up_to n f ≡ false → (i : ℕ) → i < n → f i ≡ false
-some_none n f p i h = not_true_false (f i) (λ q. false≢true (sym p ∙ some_here n i f h q))
+some_none n f p i h = false_from_ne_true (f i) (λ q. false≢true (sym p ∙ some_here n i f h q))
 
 pub none_some : (n : ℕ) (f : Set) → ((i : ℕ) → i < n → f i ≡ false) → some_up_to n f ≡ false
 none_some n f out =
-    not_true_false (some_up_to n f) (λ p. let s = some_found n f p in false≢true (sym (out s.at s.less) ∙ s.holds))
+    false_from_ne_true (some_up_to n f) (λ p. let s = some_found n f p in false≢true (sym (out s.at s.less) ∙ s.holds))
 
 pub some_cong : (n : ℕ) (f g : Set) → ((i : ℕ) → i < n → f i ≡ g i) → some_up_to n f ≡ some_up_to n g
 unfolding some_up_to

@@ -71,15 +71,6 @@ xor_and true false true = refl
 xor_and true false false = refl
 xor_and false b c = refl
 
--- what is not true is false, and the reverse
-pub not_true_false : (a : Bool) → (a ≡ true → ⊥) → a ≡ false
-not_true_false true p = absurd (p refl)
-not_true_false false p = refl
-
-pub not_false_true : (a : Bool) → (a ≡ false → ⊥) → a ≡ true
-not_false_true true p = refl
-not_false_true false p = absurd (p refl)
-
 pub and_left : (a b : Bool) → (a && b) ≡ true → a ≡ true
 and_left true b p = refl
 and_left false b p = p
@@ -87,6 +78,3 @@ and_left false b p = p
 pub and_right : (a b : Bool) → (a && b) ≡ true → b ≡ true
 and_right true b p = p
 and_right false b p = absurd (false≢true p)
-
-pub and_both : (a b : Bool) → a ≡ true → b ≡ true → (a && b) ≡ true
-and_both a b p q = rw (p, q)

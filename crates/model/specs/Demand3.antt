@@ -1,16 +1,15 @@
 -- Document 01, "Peeling": demand 3, as one statement over a decoding's result r and the correction C that it wrote, on a board with the
 -- syndrome S.
 -- Assumes nothing.
-use Rattle.std.specs.Prelude.{ℕ, ◌+◌, ◌*◌, ◌≤◌, ◌<◌, ◌≡◌, true, false, not, ◌&&◌, ◌↔◌}
+use Rattle.std.specs.Prelude.{ℕ, ◌+◌, ◌*◌, ◌≤◌, ◌<◌, ◌≡◌, true, false, not, ◌&&◌, ◌↔◌, Err}
 use Rattle.model.specs.declared.numbers.Vertex.{Vertex}
 use Rattle.model.specs.declared.refusal.Refusal.{Refusal}
 use Rattle.model.specs.declared.refusal.Refusal.TheVariants.{NoCorrection}
-use Rattle.model.specs.declared.answers.Decoded.{Decoded}
-use Rattle.model.specs.declared.answers.Decoded.TheVariants.{Key, Refused}
 use Rattle.model.specs.Sums.{Set}
 use Rattle.model.specs.Board.{Board}
 use Rattle.model.specs.Syndrome.{HasSyndrome}
 use Rattle.model.specs.Winding.{winds, together, size}
+use Rattle.model.specs.Answers.{Decoded, key_with}
 
 -- t: how many edges are lost in all
 abbrev pub lost_edges : Board → Set → ℕ
@@ -48,4 +47,4 @@ pub record SoundKey {A : Type 0} (refused : Refusal → A) (key : ℕ → ℕ �
 
 -- Demand 3: so it is, and the bounds hold of the growths and every set with the syndrome.
 abbrev pub Demand3 : Board → Set → Set → Decoded → Set → Type 0
-Demand3 B S lost r C = SoundKey Refused Key B S C (Bounded B lost C) r
+Demand3 B S lost r C = SoundKey Err key_with B S C (Bounded B lost C) r

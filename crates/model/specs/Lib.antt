@@ -1,6 +1,7 @@
 pub mod Sums
 pub mod Board
 pub mod Lent
+pub mod Answers
 pub mod Syndrome
 pub mod Winding
 pub mod Components

@@ -1,10 +1,8 @@
 -- Document 01, "Marked sheets": m1 to m9 as theorems about the definitions, and document 02, K2: the vertices that number 10 shows, K3:
 -- loop edges, and K5: open sides. Gathered as one list, each proved by computation.
 -- Assumes nothing.
-use Rattle.std.specs.Prelude.{ℕ, ◌+◌, ◌*◌, ◌≡◌, refl, true, false, ◌||◌, List, [], ◌∷◌, length, replicate, eqb}
+use Rattle.std.specs.Prelude.{ℕ, ◌+◌, ◌*◌, ◌≡◌, refl, true, false, ◌||◌, List, [], ◌∷◌, length, replicate, eqb, Err}
 use Rattle.std.proofs.Math.Option.{none, some}
-use Rattle.model.specs.declared.answers.Decoded.TheVariants.{Key, Refused}
-use Rattle.model.specs.declared.answers.RoundsDecoded.TheVariants as inRounds
 use Rattle.model.specs.Sums.{Set, odd_up_to, count_up_to, some_up_to, first_up_to, values, ones, bytes, members}
 use Rattle.model.specs.Board.{Board, board_of, without_open, Sheet, edges}
 use Rattle.model.specs.Syndrome.{odd_end, syndrome}
@@ -22,6 +20,7 @@ use Rattle.model.specs.Planar.{planar_ends, planar_marks, planar_opens, planar}
 use Rattle.model.specs.Refusals.{none_at, decode_refusal}
 use Rattle.model.specs.Outcomes.{key_or_none, decode_answer}
 use Rattle.model.specs.RoundsOutcomes.{rounds_or_none, rounds_answer}
+use Rattle.model.specs.Answers.{key_with, rounds_with}
 
 -- the set of the numbers on a list
 unfoldable pub set_of : List ℕ → Set
@@ -76,7 +75,7 @@ two_open = board_of 5 (2 ∷ 1 ∷ 4 ∷ 3 ∷ []) (0 ∷ 0 ∷ []) (0 ∷ 0 ∷
 
 -- the table answers with this many growths and this correction
 pub record Keyed (X : Sheet) (steps : ℕ) (edges : List ℕ) : Type 0 where
-  pub answers : decode_answer X (blank X) (blank X) ≡ Key steps (length edges)
+  pub answers : decode_answer X (blank X) (blank X) ≡ key_with steps (length edges)
   pub corrects : members (length X.board.marks) (corrected X) ≡ edges
 
 -- these edges end full
@@ -85,13 +84,13 @@ EndFull X e = members (edges X.board) (full (supports X)) ≡ e
 
 -- in rounds: this many of them, this correction, and these supports
 pub record RoundsKeyed (X : Sheet) (count : ℕ) (edges support : List ℕ) : Type 0 where
-  pub answers : rounds_answer X (blank X) (blank X) ≡ inRounds.RoundsKey count (length edges)
+  pub answers : rounds_answer X (blank X) (blank X) ≡ rounds_with count (length edges)
   pub corrects : members (length X.board.marks) (round_corrected X) ≡ edges
   pub supports : round_supports X ≡ support
 
 -- the table answers 10 and shows the vertex v
 abbrev pub NoKey : Sheet → ℕ → Type 0
-NoKey X v = decode_answer X (blank X) (blank X) ≡ Refused (none_at v)
+NoKey X v = decode_answer X (blank X) (blank X) ≡ Err (none_at v)
 
 -- E has the syndrome put
 abbrev pub Fits : Sheet → List ℕ → Type 0
@@ -194,7 +193,7 @@ pub record MarkedSheets : Type 0 where
   pub loops_distance : fewest looped ≡ some 1
   pub m1_rounds : RoundsKeyed m1 1 (3 ∷ []) (1 ∷ 0 ∷ 1 ∷ 2 ∷ [])
   pub m4_rounds : RoundsKeyed m4 3 (0 ∷ 1 ∷ 2 ∷ []) (2 ∷ 2 ∷ 2 ∷ [])
-  pub m5_rounds : rounds_answer m5 (blank m5) (blank m5) ≡ inRounds.Refused (none_at 0)
+  pub m5_rounds : rounds_answer m5 (blank m5) (blank m5) ≡ Err (none_at 0)
   pub m9_rounds : RoundsKeyed m9 0 [] []
   pub loops_rounds : RoundsKeyed loops 1 (1 ∷ []) (2 ∷ 2 ∷ 2 ∷ [])
   pub side_one_lem : torus 1 ≡ side_one

@@ -3,17 +3,11 @@
 -- `FacesOutcomes`, of stacks in `StackOutcomes`, of packed sheets in `WordOutcomes`, of the game in `GameOutcomes`, of traps in
 -- `TrapOutcomes`, and of reading and writing in `TextOutcomes`.
 -- Assumes nothing.
-use Rattle.std.specs.Prelude.{ℕ, ◌*◌, ◌≡◌, true, List, replicate}
+use Rattle.std.specs.Prelude.{ℕ, ◌*◌, ◌≡◌, true, List, replicate, Ok, Err, Some, None}
 use Rattle.std.proofs.Math.Option.{Option, none, some}
 use Rattle.model.specs.declared.refusal.Refusal.{Refusal}
-use Rattle.model.specs.declared.answers.Decoded.{Decoded}
-use Rattle.model.specs.declared.answers.Decoded.TheVariants as decoded
 use Rattle.model.specs.declared.answers.Verdict.{Verdict}
 use Rattle.model.specs.declared.answers.Verdict.TheVariants as verdict
-use Rattle.model.specs.declared.answers.Distance.{Distance}
-use Rattle.model.specs.declared.answers.Distance.TheVariants as distance
-use Rattle.model.specs.declared.answers.Built.{Built}
-use Rattle.model.specs.declared.answers.Built.TheVariants as built
 use Rattle.model.specs.Sums.{Set, ones, bytes}
 use Rattle.model.specs.Board.{Board, Sheet, edges}
 use Rattle.model.specs.Winding.{winds, size}
@@ -24,6 +18,7 @@ use Rattle.model.specs.Distance.{fewest}
 use Rattle.model.specs.Torus.{torus_ends, torus_marks}
 use Rattle.model.specs.Planar.{planar_vertices, planar_ends, planar_marks, planar_opens}
 use Rattle.model.specs.Refusals.{Test, odd_part_test, decode_refusal, verdict_refusal, distance_refusal, torus_refusal, planar_refusal}
+use Rattle.model.specs.Answers.{Built, Decoded, Distance, key_with}
 
 -- a call's answer: the refusal of the first test that fails, or else what follows
 abbrev pub answer : {A : Type 0} → Test → (Refusal → A) → A → A
@@ -32,15 +27,15 @@ answer (some n) refused else = refused n
 
 -- Decoding's answer once its tests are passed: number 10 with the smallest vertex of all odd parts, or the key.
 unfoldable pub key_or_none : Sheet → Decoded
-key_or_none X = answer (odd_part_test X) decoded.Refused (decoded.Key (growths X) (size X.board (corrected X)))
+key_or_none X = answer (odd_part_test X) Err (key_with (growths X) (size X.board (corrected X)))
 
 unfoldable pub decode_answer : Sheet → List ℕ → List ℕ → Decoded
-decode_answer X support correction = answer (decode_refusal X support correction) decoded.Refused (key_or_none X)
+decode_answer X support correction = answer (decode_refusal X support correction) Err (key_or_none X)
 
 -- what a buffer holds afterwards: with a key its new contents; with a refusal, which writes to no buffer, its old ones
 abbrev pub key_or : {A : Type 0} → Decoded → A → A → A
-key_or (decoded.Key g k) new old = new
-key_or (decoded.Refused n) new old = old
+key_or (Ok k) new old = new
+key_or (Err n) new old = old
 
 -- What decoding returns and leaves in its two buffers. Nothing of it is free.
 pub record Decodes (X : Sheet) (support correction : List ℕ) (r : Decoded) (support' correction' : List ℕ) : Type 0 where
@@ -75,11 +70,11 @@ pub record JudgesSoundly (X : Sheet) (handed : List ℕ) (r : Verdict) : Type 0 
 
 -- The distance, or none.
 abbrev pub distance_of : Option ℕ → Distance
-distance_of none = distance.Nothing
-distance_of (some d) = distance.Fewest d
+distance_of none = Ok None
+distance_of (some d) = Ok (Some d)
 
 unfoldable pub distance_answer : Board → List ℕ → Distance
-distance_answer B shown = answer (distance_refusal B shown) distance.Refused (distance_of (fewest B))
+distance_answer B shown = answer (distance_refusal B shown) Err (distance_of (fewest B))
 
 -- The buffer holds a winding set of d edges, a byte for each edge. Which one is free.
 pub record ShowsLoop (B : Board) (d : ℕ) (l : List ℕ) : Type 0 where
@@ -90,9 +85,9 @@ pub record ShowsLoop (B : Board) (d : ℕ) (l : List ℕ) : Type 0 where
 
 -- what the buffer holds afterwards: such a set, all 0 where no set winds, and after a refusal its old contents
 abbrev pub Shows : Board → List ℕ → Distance → List ℕ → Type 0
-Shows B old (distance.Fewest d) l = ShowsLoop B d l
-Shows B old distance.Nothing l = l ≡ replicate (edges B) 0
-Shows B old (distance.Refused n) l = l ≡ old
+Shows B old (Ok (Some d)) l = ShowsLoop B d l
+Shows B old (Ok None) l = l ≡ replicate (edges B) 0
+Shows B old (Err n) l = l ≡ old
 
 pub record Measures (B : Board) (shown : List ℕ) (r : Distance) (shown' : List ℕ) : Type 0 where
   pub result : r ≡ distance_answer B shown
@@ -100,11 +95,11 @@ pub record Measures (B : Board) (shown : List ℕ) (r : Distance) (shown' : List
 
 -- The torus builder answers with the number of vertices, L². Its buffers end as 4L² ends and 2L² marks, or as they were where it refuses.
 unfoldable pub torus_answer : ℕ → List ℕ → List ℕ → Built
-torus_answer L ends marks = answer (torus_refusal L ends marks) built.Refused (built.Vertices (L * L))
+torus_answer L ends marks = answer (torus_refusal L ends marks) Err (Ok (L * L))
 
 abbrev pub built_or : {A : Type 0} → Built → A → A → A
-built_or (built.Vertices n) new old = new
-built_or (built.Refused n) new old = old
+built_or (Ok n) new old = new
+built_or (Err n) new old = old
 
 pub record Builds (L : ℕ) (ends marks : List ℕ) (r : Built) (ends' marks' : List ℕ) : Type 0 where
   pub result : r ≡ torus_answer L ends marks
@@ -114,7 +109,7 @@ pub record Builds (L : ℕ) (ends marks : List ℕ) (r : Built) (ends' marks' : 
 -- The planar builder answers with the number of vertices, L(L + 1). Its buffers end as all ends, marks and open bytes, or as they were
 -- where it refuses.
 unfoldable pub planar_answer : ℕ → List ℕ → List ℕ → List ℕ → Built
-planar_answer L ends marks opened = answer (planar_refusal L ends marks opened) built.Refused (built.Vertices (planar_vertices L))
+planar_answer L ends marks opened = answer (planar_refusal L ends marks opened) Err (Ok (planar_vertices L))
 
 pub record BuildsPlanar (L : ℕ) (ends marks opened : List ℕ) (r : Built) (ends' marks' opened' : List ℕ) : Type 0 where
   pub result : r ≡ planar_answer L ends marks opened

@@ -1,37 +1,22 @@
 -- Document 01, "What form to use where": number and values for each case of an answer (the packing of sheets is `Words`). The layout is this
 -- project's own, one 64-bit number for C, with what a caller takes from it (include/surface_table.h): bits 0 to 7 are the refusal's number,
 -- or 0; where refused, bits 8 to 63 are the place; else bits 8 to 39 are a first and bits 40 to 63 a second value. Assumes nothing.
-use Rattle.std.specs.Prelude.{ℕ, ◌+◌, ◌-◌, ◌*◌, ◌/◌, ◌%◌, ◌^◌, cond, List, [], ◌∷◌, eqb}
+use Rattle.std.specs.Prelude.{ℕ, ◌+◌, ◌-◌, ◌*◌, ◌/◌, ◌%◌, ◌^◌, cond, List, [], ◌∷◌, eqb, Option, Result, Ok, Err, Some, None}
 use Rattle.model.specs.Refusals.{number_of, place_of}
 use Rattle.model.specs.Game.{byte_of}
 use Rattle.model.specs.declared.refusal.Refusal.{Refusal}
 use Rattle.model.specs.declared.refusal.Refusal.TheVariants.{VertexCount, EndCount, BufferLength, EndRange, MarkRange, SyndromeByte, LossByte, HandedByte, NoCorrection, TorusSide, TextLength, MalformedLine, TextBuffer, RoundCount, OpenByte, LitOpen, PlanarSide, PastLast, GameEdges, PositionByte, MoveCount, TrapEdges}
-use Rattle.model.specs.declared.answers.Decoded.{Decoded}
-use Rattle.model.specs.declared.answers.Decoded.TheVariants as decoded
-use Rattle.model.specs.declared.answers.RoundsDecoded.{RoundsDecoded}
-use Rattle.model.specs.declared.answers.RoundsDecoded.TheVariants as inRounds
+use Rattle.model.specs.declared.answers.Key.{Key}
+use Rattle.model.specs.declared.answers.RoundsKey.{RoundsKey}
+use Rattle.model.specs.declared.answers.Counts.{Counts}
+use Rattle.model.specs.declared.answers.WordCounts.{WordCounts}
 use Rattle.model.specs.declared.answers.Verdict.{Verdict}
 use Rattle.model.specs.declared.answers.Verdict.TheVariants as verdict
-use Rattle.model.specs.declared.answers.Distance.{Distance}
-use Rattle.model.specs.declared.answers.Distance.TheVariants as distance
-use Rattle.model.specs.declared.answers.Trap.{Trap}
-use Rattle.model.specs.declared.answers.Trap.TheVariants as trap
-use Rattle.model.specs.declared.answers.Built.{Built}
-use Rattle.model.specs.declared.answers.Built.TheVariants as built
-use Rattle.model.specs.declared.answers.Reading.{Reading}
-use Rattle.model.specs.declared.answers.Reading.TheVariants as reading
-use Rattle.model.specs.declared.answers.Written.{Written}
-use Rattle.model.specs.declared.answers.Written.TheVariants as written
-use Rattle.model.specs.declared.answers.Packed.{Packed}
-use Rattle.model.specs.declared.answers.Packed.TheVariants as words
-use Rattle.model.specs.declared.answers.Lit.{Lit}
-use Rattle.model.specs.declared.answers.Lit.TheVariants as lit
 use Rattle.model.specs.declared.answers.Player.{Player}
 use Rattle.model.specs.declared.answers.Player.TheVariants.{Winder, Blocker}
 use Rattle.model.specs.declared.answers.Forced.{Forced}
 use Rattle.model.specs.declared.answers.Forced.TheVariants.{Taking, Waiting}
-use Rattle.model.specs.declared.answers.Game.{Game}
-use Rattle.model.specs.declared.answers.Game.TheVariants as game
+use Rattle.model.specs.Answers.{Built, Decoded, Distance, Game, Lit, Packed, Reading, RoundsDecoded, Trap, Written, counts_with, key_with, rounds_with, word_counts_with}
 
 -- Packing
 
@@ -43,15 +28,24 @@ packed first second = 2 ^ 8 * (first % 2 ^ 32) + 2 ^ 40 * (second % 2 ^ 24)
 abbrev pub packed_refusal : Refusal → ℕ
 packed_refusal n = number_of n + 2 ^ 8 * (place_of n % 2 ^ 56)
 
+-- an answer: its own number, or that of the refusal
+abbrev pub packed_answer : {A : Type 0} → (A → ℕ) → Result A Refusal → ℕ
+packed_answer number (Ok v) = number v
+packed_answer number (Err n) = packed_refusal n
+
 -- growths, correction edges
+abbrev pub key_number : Key → ℕ
+key_number k = packed k.growths k.edges
+
 abbrev pub packed_decoded : Decoded → ℕ
-packed_decoded (decoded.Key growths edges) = packed growths edges
-packed_decoded (decoded.Refused n) = packed_refusal n
+packed_decoded = packed_answer key_number
 
 -- rounds, correction edges
+abbrev pub rounds_number : RoundsKey → ℕ
+rounds_number k = packed k.rounds k.edges
+
 abbrev pub packed_rounds : RoundsDecoded → ℕ
-packed_rounds (inRounds.RoundsKey rounds edges) = packed rounds edges
-packed_rounds (inRounds.Refused n) = packed_refusal n
+packed_rounds = packed_answer rounds_number
 
 -- 1 off with the vertex, 2 same, 3 wound with the value
 abbrev pub packed_verdict : Verdict → ℕ
@@ -61,50 +55,50 @@ packed_verdict (verdict.Wound x) = packed 3 x
 packed_verdict (verdict.Refused n) = packed_refusal n
 
 -- the fewest edges and 1, or 0 and 0 where there is none
-abbrev pub packed_distance : Distance → ℕ
-packed_distance (distance.Fewest d) = packed d 1
-packed_distance distance.Nothing = packed 0 0
-packed_distance (distance.Refused n) = packed_refusal n
+abbrev pub fewest_number : Option ℕ → ℕ
+fewest_number (Some d) = packed d 1
+fewest_number None = packed 0 0
 
--- vertices, 0
+abbrev pub packed_distance : Distance → ℕ
+packed_distance = packed_answer fewest_number
+
+abbrev pub packed_trap : Trap → ℕ
+packed_trap = packed_answer fewest_number
+
+-- a count, 0: vertices, bytes, the total of lit vertices
+abbrev pub count_number : ℕ → ℕ
+count_number n = packed n 0
+
 abbrev pub packed_built : Built → ℕ
-packed_built (built.Vertices n) = packed n 0
-packed_built (built.Refused n) = packed_refusal n
+packed_built = packed_answer count_number
+
+abbrev pub packed_written : Written → ℕ
+packed_written = packed_answer count_number
+
+abbrev pub packed_lit : Lit → ℕ
+packed_lit = packed_answer count_number
 
 -- vertices, edges
+abbrev pub counts_number : Counts → ℕ
+counts_number c = packed c.vertices c.edges
+
 abbrev pub packed_reading : Reading → ℕ
-packed_reading (reading.Counts vertices edges) = packed vertices edges
-packed_reading (reading.Refused n) = packed_refusal n
+packed_reading = packed_answer counts_number
 
--- bytes, 0
-abbrev pub packed_written : Written → ℕ
-packed_written (written.Bytes n) = packed n 0
-packed_written (written.Refused n) = packed_refusal n
+-- words of the syndrome, words of the losses
+abbrev pub words_number : WordCounts → ℕ
+words_number c = packed c.syndrome c.loss
 
--- syndrome words, loss words
 abbrev pub packed_words : Packed → ℕ
-packed_words (words.Words syndrome loss) = packed syndrome loss
-packed_words (words.Refused n) = packed_refusal n
+packed_words = packed_answer words_number
 
--- total, 0
-abbrev pub packed_lit : Lit → ℕ
-packed_lit (lit.Total t) = packed t 0
-packed_lit (lit.Refused n) = packed_refusal n
-
--- 1 Winder, 2 Blocker, as in a position; one more than the edge, or 0 where no edge is shown
+-- the player, as in a position, and one more than the edge, or 0 where none is shown
 abbrev pub packed_forced : Forced → ℕ
 packed_forced (Taking P e) = packed (byte_of P) (e.0 + 1)
 packed_forced (Waiting P) = packed (byte_of P) 0
 
 abbrev pub packed_game : Game → ℕ
-packed_game (game.Named f) = packed_forced f
-packed_game (game.Refused n) = packed_refusal n
-
--- as the distance: the edges of the trap and 1, or 0 and 0 where there is none
-abbrev pub packed_trap : Trap → ℕ
-packed_trap (trap.Fewest k) = packed k 1
-packed_trap trap.Nothing = packed 0 0
-packed_trap (trap.Refused n) = packed_refusal n
+packed_game = packed_answer packed_forced
 
 -- Taking apart
 
@@ -165,10 +159,10 @@ unpacked refused values r =
     (refused (unpacked_refusal (refusal_number r) (place_in r)))
 
 unfoldable pub unpacked_decoded : ℕ → Decoded
-unpacked_decoded = unpacked decoded.Refused decoded.Key
+unpacked_decoded = unpacked Err key_with
 
 unfoldable pub unpacked_rounds : ℕ → RoundsDecoded
-unpacked_rounds = unpacked inRounds.Refused inRounds.RoundsKey
+unpacked_rounds = unpacked Err rounds_with
 
 -- 1 is off, 2 same, and the only other first value is 3
 abbrev pub verdict_with : ℕ → ℕ → Verdict
@@ -180,25 +174,25 @@ unpacked_verdict = unpacked verdict.Refused verdict_with
 
 -- a second value of 0 says that there is none
 abbrev pub distance_with : ℕ → ℕ → Distance
-distance_with first second = cond (eqb second 0) distance.Nothing (distance.Fewest first)
+distance_with first second = cond (eqb second 0) (Ok None) (Ok (Some first))
 
 unfoldable pub unpacked_distance : ℕ → Distance
-unpacked_distance = unpacked distance.Refused distance_with
+unpacked_distance = unpacked Err distance_with
 
 unfoldable pub unpacked_built : ℕ → Built
-unpacked_built = unpacked built.Refused (λ vertices rest. built.Vertices vertices)
+unpacked_built = unpacked Err (λ vertices rest. Ok vertices)
 
 unfoldable pub unpacked_reading : ℕ → Reading
-unpacked_reading = unpacked reading.Refused reading.Counts
+unpacked_reading = unpacked Err counts_with
 
 unfoldable pub unpacked_written : ℕ → Written
-unpacked_written = unpacked written.Refused (λ bytes rest. written.Bytes bytes)
+unpacked_written = unpacked Err (λ bytes rest. Ok bytes)
 
 unfoldable pub unpacked_words : ℕ → Packed
-unpacked_words = unpacked words.Refused words.Words
+unpacked_words = unpacked Err word_counts_with
 
 unfoldable pub unpacked_lit : ℕ → Lit
-unpacked_lit = unpacked lit.Refused (λ total rest. lit.Total total)
+unpacked_lit = unpacked Err (λ total rest. Ok total)
 
 -- a first value of 1 is Winder, and the only other is 2; a second value of 0 shows no edge
 abbrev pub player_with : ℕ → Player
@@ -206,14 +200,14 @@ player_with first = cond (eqb first 1) Winder Blocker
 
 abbrev pub game_with : ℕ → ℕ → Game
 game_with first second =
-    game.Named (cond (eqb second 0) (Waiting (player_with first)) (Taking (player_with first) (record { 0 = second - 1 })))
+    Ok (cond (eqb second 0) (Waiting (player_with first)) (Taking (player_with first) (record { 0 = second - 1 })))
 
 unfoldable pub unpacked_game : ℕ → Game
-unpacked_game = unpacked game.Refused game_with
+unpacked_game = unpacked Err game_with
 
 -- as with the distance
 abbrev pub trap_with : ℕ → ℕ → Trap
-trap_with first second = cond (eqb second 0) trap.Nothing (trap.Fewest first)
+trap_with first second = cond (eqb second 0) (Ok None) (Ok (Some first))
 
 unfoldable pub unpacked_trap : ℕ → Trap
-unpacked_trap = unpacked trap.Refused trap_with
+unpacked_trap = unpacked Err trap_with

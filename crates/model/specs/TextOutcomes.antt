@@ -1,16 +1,13 @@
 -- Document 01, "Text" and "How far contracts go", 1: the outcome of reading and of writing a text, that is, what the call answers and what
 -- every lent buffer holds when it is over, also where it refuses.
 -- Assumes nothing.
-use Rattle.std.specs.Prelude.{ℕ, ◌*◌, ◌≡◌, true, ◌&&◌, List, [], ◌∷◌, ◌++◌, length, drop, leb}
+use Rattle.std.specs.Prelude.{ℕ, ◌*◌, ◌≡◌, true, ◌&&◌, List, [], ◌∷◌, ◌++◌, length, drop, leb, Ok, Err}
 use Rattle.model.specs.declared.refusal.Refusal.TheVariants.{TextLength, TextBuffer}
-use Rattle.model.specs.declared.answers.Reading.{Reading}
-use Rattle.model.specs.declared.answers.Reading.TheVariants as reading
-use Rattle.model.specs.declared.answers.Written.{Written}
-use Rattle.model.specs.declared.answers.Written.TheVariants as written
 use Rattle.model.specs.Board.{Sheet, edges, vertex_limit, edge_limit}
 use Rattle.model.specs.Refusals.{Rule, whole, Test, refusal_of, sized, length_rule, sheet_rules}
 use Rattle.model.specs.Outcomes.{answer}
 use Rattle.model.specs.Text.{Read, complete, refused, text_of, read_text}
+use Rattle.model.specs.Answers.{Reading, Written, counts_with}
 
 -- Rule 12, of the reader and the writer: the text has at most 65,536 bytes.
 abbrev pub text_limit : ℕ
@@ -62,8 +59,8 @@ read_outcome text old = answer (read_refusal text old) refused (read_text text)
 
 -- The reader answers with the numbers of vertices and of edges ..
 abbrev pub counts : Read → Reading
-counts (complete sheet) = reading.Counts sheet.board.vertices (edges sheet.board)
-counts (refused n) = reading.Refused n
+counts (complete sheet) = counts_with sheet.board.vertices (edges sheet.board)
+counts (refused n) = Err n
 
 -- .. and puts what it read in front in each buffer. Entries behind that keep their values; after a refusal, 13 included, all entries do.
 abbrev pub filled : Read → Buffers → Buffers
@@ -92,12 +89,12 @@ write_refusal sheet buffer = refusal_of (write_rules sheet buffer)
 
 -- It answers with the length of the text, in bytes ..
 unfoldable pub write_answer : Sheet → List ℕ → Written
-write_answer sheet buffer = answer (write_refusal sheet buffer) written.Refused (written.Bytes (length (text_of sheet)))
+write_answer sheet buffer = answer (write_refusal sheet buffer) Err (Ok (length (text_of sheet)))
 
 -- .. and puts the text in front in the buffer. Bytes behind that keep their values; after a refusal all bytes do.
 abbrev pub written_or : {A : Type 0} → Written → A → A → A
-written_or (written.Bytes n) new old = new
-written_or (written.Refused n) new old = old
+written_or (Ok n) new old = new
+written_or (Err n) new old = old
 
 pub record Writes (sheet : Sheet) (buffer : List ℕ) (r : Written) (buffer' : List ℕ) : Type 0 where
   pub result : r ≡ write_answer sheet buffer

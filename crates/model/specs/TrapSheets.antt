@@ -1,7 +1,6 @@
 -- Document 02, K12: traps by hand. Gathered as one list, each proved by computation. Assumes nothing.
 use Rattle.std.specs.Prelude.{ℕ, ◌+◌, ◌≡◌, refl, true, false, [], ◌∷◌}
 use Rattle.std.proofs.Math.Option.{none, some}
-use Rattle.model.specs.declared.answers.Trap.TheVariants.{Nothing}
 use Rattle.model.specs.declared.refusal.Refusal.TheVariants.{BufferLength, LossByte, OpenByte, TrapEdges}
 use Rattle.model.specs.Sums.{odd_up_to, count_up_to, some_up_to, first_up_to, values, ones}
 use Rattle.model.specs.Board.{Board, board_of, without_open}
@@ -20,6 +19,7 @@ use Rattle.model.specs.MarkedSheets.{ring, path, pair, point}
 use Rattle.model.specs.GameSheets.{row}
 use Rattle.model.specs.Traps.{traps, fewest_trap}
 use Rattle.model.specs.TrapOutcomes.{ShowsTrap, Sets}
+use Rattle.std.specs.Prelude.{Ok, None}
 
 -- three edges in a ring, of which the last crosses line A
 abbrev pub triangle : Board
@@ -52,7 +52,7 @@ pub record TrapSheets : Type 0 where
   pub two_of_row : fewest_trap row (0 ∷ 0 ∷ 0 ∷ []) ≡ some 2
   pub planar_2 : fewest_trap (planar 2) (0 ∷ 0 ∷ 0 ∷ 0 ∷ 0 ∷ []) ≡ some 1
   -- where there is none, the set is all 0, whatever it was
-  pub left_empty : Sets path (0 ∷ 0 ∷ 0 ∷ []) (1 ∷ 1 ∷ 1 ∷ []) Nothing (0 ∷ 0 ∷ 0 ∷ [])
+  pub left_empty : Sets path (0 ∷ 0 ∷ 0 ∷ []) (1 ∷ 1 ∷ 1 ∷ []) (Ok None) (0 ∷ 0 ∷ 0 ∷ [])
   -- 16 edges pass, and 17 do not; 3 before 8 before 16 before 23
   pub sixteen : trap_refusal (petals 16 0) (values 16 (λ i. 0)) (values 16 (λ i. 9)) ≡ none
   pub seventeen : trap_refusal (petals 17 0) (values 17 (λ i. 0)) (values 17 (λ i. 9)) ≡ some TrapEdges

@@ -1,9 +1,7 @@
 -- Document 02, K7: packed sheets by hand, at the ends of words. Gathered as one list, each proved by computation.
 -- Assumes nothing.
-use Rattle.std.specs.Prelude.{ℕ, ◌^◌, ◌≡◌, refl, List, [], ◌∷◌}
+use Rattle.std.specs.Prelude.{ℕ, ◌^◌, ◌≡◌, refl, List, [], ◌∷◌, Err}
 use Rattle.std.proofs.Math.Option.{none, some}
-use Rattle.model.specs.declared.answers.Decoded.{Decoded}
-use Rattle.model.specs.declared.answers.Decoded.TheVariants as decoded
 use Rattle.model.specs.declared.refusal.Refusal.{Refusal}
 use Rattle.model.specs.declared.refusal.Refusal.TheVariants.{MarkRange, PastLast, LitOpen}
 use Rattle.model.specs.Sums.{odd_up_to, count_up_to, some_up_to, first_up_to, values, bytes, members}
@@ -19,6 +17,7 @@ use Rattle.model.specs.WordRefusals.{word_rule, word_rules, unpack_rules, unpack
 use Rattle.model.specs.Outcomes.{key_or_none}
 use Rattle.model.specs.WordOutcomes.{decode_packed_answer}
 use Rattle.model.specs.MarkedSheets.{set_of}
+use Rattle.model.specs.Answers.{Decoded, key_with}
 
 -- n items as words, of which those on a list are set
 abbrev pub words_with : ℕ → List ℕ → List ℕ
@@ -62,10 +61,10 @@ pub record WordSheets : Type 0 where
   pub past_edges : refused_words (0 ∷ []) (2 ^ 63 ∷ 2 ∷ []) ≡ some (at_word 1)
   pub syndrome_first : refused_words (4 ∷ []) (0 ∷ 2 ∷ []) ≡ some (at_word 0)
   -- Sheet m1's key, of packed words. A mark comes before a bit past the last item, and that before an open vertex that is lit.
-  pub key : ring_decoded (0 ∷ 0 ∷ 0 ∷ 1 ∷ []) [] 9 ≡ decoded.Key 2 1
-  pub mark_first : ring_decoded (0 ∷ 0 ∷ 0 ∷ 4 ∷ []) [] 16 ≡ decoded.Refused (MarkRange (record { 0 = 3 }))
-  pub word_first : ring_decoded (0 ∷ 0 ∷ 0 ∷ 1 ∷ []) (0 ∷ []) 17 ≡ decoded.Refused (at_word 0)
-  pub lit_open : ring_decoded (0 ∷ 0 ∷ 0 ∷ 1 ∷ []) (0 ∷ []) 1 ≡ decoded.Refused (LitOpen (record { 0 = 0 }))
+  pub key : ring_decoded (0 ∷ 0 ∷ 0 ∷ 1 ∷ []) [] 9 ≡ key_with 2 1
+  pub mark_first : ring_decoded (0 ∷ 0 ∷ 0 ∷ 4 ∷ []) [] 16 ≡ Err (MarkRange (record { 0 = 3 }))
+  pub word_first : ring_decoded (0 ∷ 0 ∷ 0 ∷ 1 ∷ []) (0 ∷ []) 17 ≡ Err (at_word 0)
+  pub lit_open : ring_decoded (0 ∷ 0 ∷ 0 ∷ 1 ∷ []) (0 ∷ []) 1 ≡ Err (LitOpen (record { 0 = 0 }))
 
 pub word_sheets : WordSheets
 unfolding members set_of odd_up_to count_up_to some_up_to first_up_to values labels_up_to labels start clusters oddly_lit holds_open odd exposed boundary choice_up_to choice swell weighted grow_from grown taken_up_to forest odd_side spanned odd_ends correction parts in_odd_part smallest_odd grown_by peeled number_with words_of bytes_in unpacked_sheet past_last lit_total lit_vertices board_rules word_rule word_rules unpack_rules unpack_refusal packed_rules decode_packed_rules decode_packed_refusal key_or_none decode_packed_answer

@@ -1,22 +1,25 @@
 use crate::numbers::{Edge, Vertex};
 use crate::refusal::Refusal;
 
-// What decoding answers: the growth count and the number of correction edges, or a refusal.
+// What the calls answer where they refuse nothing. Each call answers a `Result` of it, whose error is the refusal; the verdict alone is an enum
+// that holds the refusal in a case of its own.
+
+// A key: the growth count and the number of correction edges.
 #[derive(Clone, Copy)]
-pub enum Decoded {
-    Key { growths: usize, edges: usize },
-    Refused(Refusal),
+pub struct Key {
+    pub growths: usize,
+    pub edges: usize,
 }
 
-// What decoding in rounds answers: the number of rounds, which is no growth count, and that of correction edges, or a refusal.
+// A key in rounds: the number of rounds, which is no growth count, and that of correction edges.
 #[derive(Clone, Copy)]
-pub enum RoundsDecoded {
-    RoundsKey { rounds: usize, edges: usize },
-    Refused(Refusal),
+pub struct RoundsKey {
+    pub rounds: usize,
+    pub edges: usize,
 }
 
-// What the verdict on a handed-in set answers, with faces too: off with a vertex, same, wound with a mark value, or a refusal, decoding's own
-// among them.
+// The verdict on a handed-in set, with faces too: off with a vertex, same, wound with a mark value, or a refusal, decoding's own among them.
+// No `Result`: that the verdict's enum holds the refusal's is a form that the product's scope names (docs/DECISIONS.md, "Forms").
 #[derive(Clone, Copy)]
 pub enum Verdict {
     Off(Vertex),
@@ -25,59 +28,22 @@ pub enum Verdict {
     Refused(Refusal),
 }
 
-// What the distance answers: the fewest edges of a winding loop, nothing where there is none, or a refusal.
+// Both counts of a sheet, as the reader of a text and unpacking answer them.
 #[derive(Clone, Copy)]
-pub enum Distance {
-    Fewest(usize),
-    Nothing,
-    Refused(Refusal),
+pub struct Counts {
+    pub vertices: usize,
+    pub edges: usize,
 }
 
-// What the search for a trap answers: the fewest edges of one, nothing where there is none, or a refusal.
+// How many words the syndrome and the losses fill, as packing answers.
 #[derive(Clone, Copy)]
-pub enum Trap {
-    Fewest(usize),
-    Nothing,
-    Refused(Refusal),
-}
-
-// What the builders of tori, planar boards and stacks answer: the vertex count, or a refusal.
-#[derive(Clone, Copy)]
-pub enum Built {
-    Vertices(usize),
-    Refused(Refusal),
-}
-
-// What the reader of a text and unpacking answer: both counts, or a refusal.
-#[derive(Clone, Copy)]
-pub enum Reading {
-    Counts { vertices: usize, edges: usize },
-    Refused(Refusal),
-}
-
-// What the writer of a text answers: the byte count, or a refusal.
-#[derive(Clone, Copy)]
-pub enum Written {
-    Bytes(usize),
-    Refused(Refusal),
-}
-
-// What packing answers: how many words the syndrome and the losses fill, or a refusal.
-#[derive(Clone, Copy)]
-pub enum Packed {
-    Words { syndrome: usize, loss: usize },
-    Refused(Refusal),
-}
-
-// What the lit total and the list of lit vertices answer: the total, or a refusal.
-#[derive(Clone, Copy)]
-pub enum Lit {
-    Total(usize),
-    Refused(Refusal),
+pub struct WordCounts {
+    pub syndrome: usize,
+    pub loss: usize,
 }
 
 // The two who play.
-#[derive(Clone, Copy)]
+#[derive(Clone, Copy, PartialEq, Eq)]
 pub enum Player {
     Winder,
     Blocker,
@@ -89,11 +55,4 @@ pub enum Player {
 pub enum Forced {
     Taking(Player, Edge),
     Waiting(Player),
-}
-
-// What the game answers: who can force the win, or a refusal.
-#[derive(Clone, Copy)]
-pub enum Game {
-    Named(Forced),
-    Refused(Refusal),
 }

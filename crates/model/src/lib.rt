@@ -4,6 +4,7 @@
 
 pub mod answers;
 pub mod ends;
+pub mod lent;
 pub mod limits;
 pub mod numbers;
 pub mod refusal;

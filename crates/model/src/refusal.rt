@@ -30,62 +30,63 @@ pub enum Refusal {
     TrapEdges,
 }
 
-// The refusal's number.
-pub fn number(refusal: Refusal) -> u8
-    ensures { result ≡ number_of refusal }
-{
-    match refusal {
-        Refusal::VertexCount => 1,
-        Refusal::EndCount => 2,
-        Refusal::BufferLength => 3,
-        Refusal::EndRange(_) => 4,
-        Refusal::MarkRange(_) => 6,
-        Refusal::SyndromeByte(_) => 7,
-        Refusal::LossByte(_) => 8,
-        Refusal::HandedByte(_) => 9,
-        Refusal::NoCorrection(_) => 10,
-        Refusal::TorusSide(_) => 11,
-        Refusal::TextLength => 12,
-        Refusal::MalformedLine(_) => 13,
-        Refusal::TextBuffer => 14,
-        Refusal::RoundCount => 15,
-        Refusal::OpenByte(_) => 16,
-        Refusal::LitOpen(_) => 17,
-        Refusal::PlanarSide(_) => 18,
-        Refusal::PastLast(_) => 19,
-        Refusal::GameEdges => 20,
-        Refusal::PositionByte(_) => 21,
-        Refusal::MoveCount => 22,
-        Refusal::TrapEdges => 23,
+impl Refusal {
+    // Its number.
+    pub fn number(self) -> u8
+        ensures { result ≡ number_of self }
+    {
+        match self {
+            Refusal::VertexCount => 1,
+            Refusal::EndCount => 2,
+            Refusal::BufferLength => 3,
+            Refusal::EndRange(_) => 4,
+            Refusal::MarkRange(_) => 6,
+            Refusal::SyndromeByte(_) => 7,
+            Refusal::LossByte(_) => 8,
+            Refusal::HandedByte(_) => 9,
+            Refusal::NoCorrection(_) => 10,
+            Refusal::TorusSide(_) => 11,
+            Refusal::TextLength => 12,
+            Refusal::MalformedLine(_) => 13,
+            Refusal::TextBuffer => 14,
+            Refusal::RoundCount => 15,
+            Refusal::OpenByte(_) => 16,
+            Refusal::LitOpen(_) => 17,
+            Refusal::PlanarSide(_) => 18,
+            Refusal::PastLast(_) => 19,
+            Refusal::GameEdges => 20,
+            Refusal::PositionByte(_) => 21,
+            Refusal::MoveCount => 22,
+            Refusal::TrapEdges => 23,
+        }
     }
-}
 
-// The refusal's place: an edge, a vertex, a side, a line, a word, or 0 where there is none.
-pub fn place(refusal: Refusal) -> usize
-    ensures { result ≡ place_of refusal }
-{
-    match refusal {
-        Refusal::VertexCount => 0,
-        Refusal::EndCount => 0,
-        Refusal::BufferLength => 0,
-        Refusal::EndRange(e) => e.0 as usize,
-        Refusal::MarkRange(e) => e.0 as usize,
-        Refusal::SyndromeByte(v) => v.0 as usize,
-        Refusal::LossByte(e) => e.0 as usize,
-        Refusal::HandedByte(e) => e.0 as usize,
-        Refusal::NoCorrection(v) => v.0 as usize,
-        Refusal::TorusSide(side) => side,
-        Refusal::TextLength => 0,
-        Refusal::MalformedLine(line) => line,
-        Refusal::TextBuffer => 0,
-        Refusal::RoundCount => 0,
-        Refusal::OpenByte(v) => v.0 as usize,
-        Refusal::LitOpen(v) => v.0 as usize,
-        Refusal::PlanarSide(side) => side,
-        Refusal::PastLast(w) => w.0 as usize,
-        Refusal::GameEdges => 0,
-        Refusal::PositionByte(e) => e.0 as usize,
-        Refusal::MoveCount => 0,
-        Refusal::TrapEdges => 0,
+    // Its place: an edge, a vertex, a side, a line, a word, or 0 where there is none.
+    pub fn place(self) -> usize
+        ensures { result ≡ place_of self }
+    {
+        match self {
+            Refusal::VertexCount
+            | Refusal::EndCount
+            | Refusal::BufferLength
+            | Refusal::TextLength
+            | Refusal::TextBuffer
+            | Refusal::RoundCount
+            | Refusal::GameEdges
+            | Refusal::MoveCount
+            | Refusal::TrapEdges => 0,
+            Refusal::EndRange(e)
+            | Refusal::MarkRange(e)
+            | Refusal::LossByte(e)
+            | Refusal::HandedByte(e)
+            | Refusal::PositionByte(e) => e.0 as usize,
+            Refusal::SyndromeByte(v)
+            | Refusal::NoCorrection(v)
+            | Refusal::OpenByte(v)
+            | Refusal::LitOpen(v) => v.0 as usize,
+            Refusal::TorusSide(side) | Refusal::PlanarSide(side) => side,
+            Refusal::MalformedLine(line) => line,
+            Refusal::PastLast(word) => word.0 as usize,
+        }
     }
 }

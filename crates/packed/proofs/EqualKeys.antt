@@ -3,8 +3,6 @@ use Prim.Native.Nat.{ℕ}
 use mathlib.Core.Path.{◌≡◌, ap, ap₂, ◌∙◌, subst}
 use mathlib.Core.Logic.{◌↔◌}
 use mathlib.Core.List.{List}
-use Rattle.model.specs.declared.answers.Decoded.{Decoded}
-use Rattle.model.specs.declared.answers.Decoded.TheVariants.{Refused}
 use Rattle.model.specs.Sums.{ones}
 use Rattle.model.specs.Board.{Board, ValidBytes, sheet_of}
 use Rattle.model.specs.Words.{words_of, unpacked_sheet}
@@ -15,6 +13,8 @@ use Rattle.model.specs.WordOutcomes.{decode_packed_answer, DecodesPacked}
 use Rattle.packed.proofs.PackedDecoding.{same_outcome}
 use Rattle.packed.proofs.RoundTrips.{words_within, unpacks_packed}
 use Rattle.packed.proofs.Screening.{as_unpacked}
+use Rattle.model.specs.Answers.{Decoded}
+use Rattle.std.specs.Prelude.{Err}
 
 module _ (B : Board) (syndrome loss : List ℕ) (lit : ValidBytes B.vertices syndrome) (lost : ValidBytes (edges_of B.ends) loss) where
   -- the words of both
@@ -43,7 +43,7 @@ module _ (B : Board) (syndrome loss : List ℕ) (lit : ValidBytes B.vertices syn
     -- the answers are equal
     pub equal_answers : decode_packed_answer B lit_words lost_words support correction ≡ decode_answer (sheet_of B syndrome loss) support correction
     unfolding decode_packed_answer decode_answer
-    equal_answers = ap₂ (λ t X. answer t Refused (key_or_none X)) equal_refusals same_sheet
+    equal_answers = ap₂ (λ t X. answer t Err (key_or_none X)) equal_refusals same_sheet
 
     -- and with them all that is written: an outcome of the one is an outcome of the other
     pub equal_keys : (r : Decoded) (support' correction' : List ℕ)

@@ -4,6 +4,7 @@ pub mod PastLast
 pub mod RoundTrips
 pub mod BitLists
 pub mod StoringLaws
+pub mod WordWalk
 pub mod UnpackedWords
 pub mod PackedWords
 pub mod LitLaws

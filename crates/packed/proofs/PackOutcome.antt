@@ -5,10 +5,6 @@ use mathlib.Core.List.{List}
 use mathlib.Core.Option.{none, some}
 use lib.ListN.{length, get_or}
 use Rattle.model.specs.declared.refusal.Refusal.{Refusal}
-use Rattle.model.specs.declared.answers.Packed.{Packed}
-use Rattle.model.specs.declared.answers.Packed.TheVariants as packed
-use Rattle.model.specs.declared.answers.Reading.{Reading}
-use Rattle.model.specs.declared.answers.Reading.TheVariants as reading
 use Rattle.model.specs.Sums.{ones}
 use Rattle.model.specs.Board.{ValidBytes}
 use Rattle.model.specs.Words.{word_count, words_of, bytes_in}
@@ -20,6 +16,8 @@ use Rattle.model.proofs.Places.{answer_passed}
 use Rattle.packed.proofs.RoundTrips.{words_long, words_within, unpacks_packed, packs_unpacked}
 use Rattle.packed.proofs.Screening.{in_bytes}
 use Rattle.packed.proofs.WordTests.{ForPacking, ForUnpacking, pack_passes, passes_pack, unpack_passes, passes_unpack}
+use Rattle.model.specs.Answers.{Packed, Reading, counts_with, word_counts_with}
+use Rattle.std.specs.Prelude.{Err}
 
 -- valid bytes are as many as they are
 pub as_many : (n : ℕ) (l : List ℕ) → ValidBytes n l → ValidBytes (length l) l
@@ -29,7 +27,7 @@ as_many n l v = rw v.count v
 
 module _ (n m : ℕ) (syndrome loss lit lost : List ℕ) where
   module _ (r : Packed) (lit' lost' : List ℕ) (packs : Packs n m syndrome loss lit lost r lit' lost') where
-    module _ (i j : ℕ) (is : r ≡ packed.Words i j) where
+    module _ (i j : ℕ) (is : r ≡ word_counts_with i j) where
       valid : ForPacking n m syndrome loss lit lost
       unfolding pack_answer
       valid =
@@ -74,39 +72,39 @@ module _ (n m : ℕ) (syndrome loss lit lost : List ℕ) where
   abbrev PackPromises : Packed → List ℕ → List ℕ → Type 0
   PackPromises r lit' lost' = Packs n m syndrome loss lit lost r lit' lost' × PacksSoundly n m syndrome loss r lit' lost'
 
-  pub pack_refused : (x : Refusal) → pack_refusal n m syndrome loss lit lost ≡ some x → PackPromises (packed.Refused x) lit lost
+  pub pack_refused : (x : Refusal) → pack_refusal n m syndrome loss lit lost ≡ some x → PackPromises (Err x) lit lost
   unfolding pack_answer
   pack_refused x p =
-      let packs : Packs n m syndrome loss lit lost (packed.Refused x) lit lost =
+      let packs : Packs n m syndrome loss lit lost (Err x) lit lost =
       record {
-        result = ap (λ t. answer t packed.Refused (packed.Words (word_count n) (word_count m))) (sym p);
+        result = ap (λ t. answer t Err (word_counts_with (word_count n) (word_count m))) (sym p);
         syndrome_packed = refl;
         loss_packed = refl;
       } in
-      (packs, packs_sound (packed.Refused x) lit lost packs)
+      (packs, packs_sound (Err x) lit lost packs)
 
   pub pack_written : (lit' lost' : List ℕ) → pack_refusal n m syndrome loss lit lost ≡ none
       → lit' ≡ words_of (length syndrome) (ones syndrome) → lost' ≡ words_of (length loss) (ones loss)
-      → PackPromises (packed.Words (length lit') (length lost')) lit' lost'
+      → PackPromises (word_counts_with (length lit') (length lost')) lit' lost'
   unfolding pack_answer
   pack_written lit' lost' p lit-filled lost-filled =
       let items = (pack_passes n m syndrome loss lit lost p).items in
       let lit_words = lit-filled ∙ ap (λ k. words_of k (ones syndrome)) items.syndrome_long in
       let lost-words = lost-filled ∙ ap (λ k. words_of k (ones loss)) items.loss_long in
-      let counts = ap₂ packed.Words (ap length lit_words ∙ words_long n (ones syndrome)) (ap length lost-words ∙ words_long m (ones loss)) in
-      let packs : Packs n m syndrome loss lit lost (packed.Words (length lit') (length lost')) lit' lost' =
+      let counts = ap₂ word_counts_with (ap length lit_words ∙ words_long n (ones syndrome)) (ap length lost-words ∙ words_long m (ones loss)) in
+      let packs : Packs n m syndrome loss lit lost (word_counts_with (length lit') (length lost')) lit' lost' =
       record {
-        result = counts ∙ ap (λ t. answer t packed.Refused (packed.Words (word_count n) (word_count m))) (sym p);
+        result = counts ∙ ap (λ t. answer t Err (word_counts_with (word_count n) (word_count m))) (sym p);
         syndrome_packed = lit_words;
         loss_packed = lost-words;
       } in
-      (packs, packs_sound (packed.Words (length lit') (length lost')) lit' lost' packs)
+      (packs, packs_sound (word_counts_with (length lit') (length lost')) lit' lost' packs)
 
 -- Unpacking
 
 module _ (n m : ℕ) (lit lost syndrome loss : List ℕ) (lit-fits : (w : ℕ) → get_or lit w 0 < 2 ^ 64) (lost-fits : (w : ℕ) → get_or lost w 0 < 2 ^ 64) where
   module _ (r : Reading) (syndrome' loss' : List ℕ) (unpacks : Unpacks n m lit lost syndrome loss r syndrome' loss') where
-    module _ (i j : ℕ) (is : r ≡ reading.Counts i j) where
+    module _ (i j : ℕ) (is : r ≡ counts_with i j) where
       fit : ForUnpacking n m lit lost syndrome loss
       unfolding unpack_answer
       fit =
@@ -151,22 +149,22 @@ module _ (n m : ℕ) (lit lost syndrome loss : List ℕ) (lit-fits : (w : ℕ) �
   abbrev UnpackPromises : Reading → List ℕ → List ℕ → Type 0
   UnpackPromises r syndrome' loss' = Unpacks n m lit lost syndrome loss r syndrome' loss' × UnpacksSoundly n m lit lost r syndrome' loss'
 
-  pub unpack_refused : (x : Refusal) → unpack_refusal n m lit lost syndrome loss ≡ some x → UnpackPromises (reading.Refused x) syndrome loss
+  pub unpack_refused : (x : Refusal) → unpack_refusal n m lit lost syndrome loss ≡ some x → UnpackPromises (Err x) syndrome loss
   unfolding unpack_answer
   unpack_refused x p =
-      let unpacks : Unpacks n m lit lost syndrome loss (reading.Refused x) syndrome loss =
-      record { result = ap (λ t. answer t reading.Refused (reading.Counts n m)) (sym p); syndrome_bytes = refl; loss_bytes = refl } in
-      (unpacks, unpacks_sound (reading.Refused x) syndrome loss unpacks)
+      let unpacks : Unpacks n m lit lost syndrome loss (Err x) syndrome loss =
+      record { result = ap (λ t. answer t Err (counts_with n m)) (sym p); syndrome_bytes = refl; loss_bytes = refl } in
+      (unpacks, unpacks_sound (Err x) syndrome loss unpacks)
 
   pub unpack_written : (syndrome' loss' : List ℕ) → unpack_refusal n m lit lost syndrome loss ≡ none
-      → syndrome' ≡ bytes_in (length syndrome) lit → loss' ≡ bytes_in (length loss) lost → UnpackPromises (reading.Counts n m) syndrome' loss'
+      → syndrome' ≡ bytes_in (length syndrome) lit → loss' ≡ bytes_in (length loss) lost → UnpackPromises (counts_with n m) syndrome' loss'
   unfolding unpack_answer
   unpack_written syndrome' loss' p syndrome-are loss-are =
       let items = (unpack_passes n m syndrome loss lit lost p).items in
-      let unpacks : Unpacks n m lit lost syndrome loss (reading.Counts n m) syndrome' loss' =
+      let unpacks : Unpacks n m lit lost syndrome loss (counts_with n m) syndrome' loss' =
       record {
-        result = ap (λ t. answer t reading.Refused (reading.Counts n m)) (sym p);
+        result = ap (λ t. answer t Err (counts_with n m)) (sym p);
         syndrome_bytes = syndrome-are ∙ ap (λ k. bytes_in k lit) items.syndrome_long;
         loss_bytes = loss-are ∙ ap (λ k. bytes_in k lost) items.loss_long;
       } in
-      (unpacks, unpacks_sound (reading.Counts n m) syndrome' loss' unpacks)
+      (unpacks, unpacks_sound (counts_with n m) syndrome' loss' unpacks)

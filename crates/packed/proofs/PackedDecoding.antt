@@ -6,8 +6,6 @@ use mathlib.Core.List.{List}
 use mathlib.Core.Option.{none, some}
 use lib.ListN.{length, replicate, length-replicate}
 use Rattle.model.specs.declared.refusal.Refusal.{Refusal}
-use Rattle.model.specs.declared.answers.Decoded.{Decoded}
-use Rattle.model.specs.declared.answers.Decoded.TheVariants.{Refused}
 use Rattle.model.specs.Board.{Board, Sheet, sheet_of}
 use Rattle.model.specs.Words.{bytes_in, unpacked_sheet}
 use Rattle.model.specs.Refusals.{refusal_of, decode_refusal}
@@ -20,13 +18,12 @@ use Rattle.theory.proofs.Demand3.{decodes_demand3}
 use Rattle.packed.specs.Screened.{Unpackable}
 use Rattle.packed.proofs.Screening.{as_decoding_refusal}
 use Rattle.packed.proofs.WordTests.{packed_tests}
+use Rattle.model.specs.Answers.{Decoded}
+use Rattle.std.specs.Prelude.{Err}
 
 -- as many zeros as there are
 pub zeros_long : (n : ℕ) {l : List ℕ} → l ≡ replicate n 0 → length l ≡ n
 zeros_long n p = ap length p ∙ length-replicate n 0
-
-pub zeros_are : (n : ℕ) {l : List ℕ} → l ≡ replicate n 0 → l ≡ replicate (length l) 0
-zeros_are n p = p ∙ ap (λ k. replicate k 0) (sym (zeros_long n p))
 
 module _ (B : Board) (lit lost support correction : List ℕ) where
   abbrev X : Sheet
@@ -40,13 +37,13 @@ module _ (B : Board) (lit lost support correction : List ℕ) where
     same_outcome same = (
       λ d.
           record {
-            result = d.result ∙ ap (λ t. answer t Refused (key_or_none X)) same;
+            result = d.result ∙ ap (λ t. answer t Err (key_or_none X)) same;
             support_bytes = d.support_bytes;
             correction_bytes = d.correction_bytes;
           },
       λ d.
           record {
-            result = d.result ∙ ap (λ t. answer t Refused (key_or_none X)) (sym same);
+            result = d.result ∙ ap (λ t. answer t Err (key_or_none X)) (sym same);
             support_bytes = d.support_bytes;
             correction_bytes = d.correction_bytes;
           },
@@ -80,17 +77,17 @@ module _ (B : Board) (lit lost support correction : List ℕ) where
 
   -- a test of the words, or one before it, fails
   pub packed_refused : (n : Refusal) → decode_packed_refusal B lit lost support correction ≡ some n
-      → DecodesPacked B lit lost support correction (Refused n) support correction
-      × DecodesPackedSoundly B lit lost support correction (Refused n) support correction
+      → DecodesPacked B lit lost support correction (Err n) support correction
+      × DecodesPackedSoundly B lit lost support correction (Err n) support correction
   unfolding decode_packed_answer
   packed_refused n p =
-      let d : DecodesPacked B lit lost support correction (Refused n) support correction =
+      let d : DecodesPacked B lit lost support correction (Err n) support correction =
       record {
-        result = ap (λ t. answer t Refused (key_or_none X)) (sym p);
+        result = ap (λ t. answer t Err (key_or_none X)) (sym p);
         support_bytes = refl;
         correction_bytes = refl;
       } in
-      (d, packed_sound (Refused n) support correction d)
+      (d, packed_sound (Err n) support correction d)
 
   -- the sheet is decoded
   pub packed_decoded : (r : Decoded) (support' correction' : List ℕ)

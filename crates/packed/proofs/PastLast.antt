@@ -13,10 +13,10 @@ use borrow.Author.Tests.{le-leb, lt-leb}
 use lib.ListN.{length, get_or}
 use lib.Dec.{leb}
 use lib.Pow.{pow_pos}
+use Rattle.std.proofs.lemmas.Bool.{true_from_ne_false}
 use Rattle.model.specs.Sums.{some_up_to, first_up_to}
 use Rattle.model.specs.Words.{bit_of, in_words, word_count, past_last}
 use Rattle.model.proofs.SumLaws.{none_some, some_none, first_none, first_is}
-use Rattle.model.proofs.Xor.{not_false_true}
 use Rattle.theory.proofs.BitLaws.{no_higher, few_bits}
 
 -- bit k of word w is item 64w + k
@@ -53,7 +53,7 @@ module _ (n : ℕ) (words : List ℕ) where
   something_above : (w r : ℕ) → n ≡ 64 * w + r → r ≤ 64 → get_or words w 0 < 2 ^ 64 → get_or words w 0 / 2 ^ r ≢ 0 → past_last n words w ≡ true
   unfolding past_last
   something_above w r split few below p =
-      not_false_true (some_up_to 64 (λ k. leb n (64 * w + k) && bit_of (get_or words w 0) k)) (λ q.
+      true_from_ne_false (some_up_to 64 (λ k. leb n (64 * w + k) && bit_of (get_or words w 0) k)) (λ q.
       p (div-eq_of_lt (few_bits r 64 (get_or words w 0) few below (λ k h l.
       subst (λ b. (b && bit_of (get_or words w 0) k) ≡ false) (le-leb n (64 * w + k) (omega arith)) (some_none 64 _ q k l)))))
 

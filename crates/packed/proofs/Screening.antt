@@ -16,10 +16,9 @@ use Rattle.model.specs.Refusals.{Rule, Test, refusal_of, sized, edges_of, board_
 use Rattle.model.specs.WordRefusals.{words_sized, word_rules, packed_board_rules, packed_rules, decode_packed_refusal}
 use Rattle.model.proofs.Xor.{and_left, and_right}
 use Rattle.model.proofs.ListLaws.{bytes_valid}
-use Rattle.board.specs.declared.outcome.Check.{Check}
-use Rattle.board.specs.declared.outcome.Check.TheVariants.{Passed, Failed}
+use Rattle.std.specs.Prelude.{Result, Ok, Err}
 use Rattle.board.specs.Checks.{test_of}
-use Rattle.board.proofs.Failures.{neither_fails, each_passes, passes_each}
+use Rattle.board.proofs.Failures.{neither_fails, each_passes, passes_each, passed}
 use Rattle.board.proofs.Passing.{counts_say, say_bytes}
 use Rattle.board.proofs.Validity.{board_counts, board_tests, plain_tests, sheet_tests}
 use Rattle.packed.specs.Screened.{Fitting, Screened}
@@ -47,11 +46,6 @@ module _ (B : Board) (syndrome loss support correction : List ℕ) where
   -- the tests 1 to 3
   abbrev pub packed_counts : List Rule
   packed_counts = board_counts B others
-
-  -- .. where i and j are the counts of words
-  pub counts_as : (i j : ℕ) → i ≡ word_count B.vertices → j ≡ word_count m → {t : Test}
-      → t ≡ refusal_of (board_counts B ((sized syndrome i && sized loss j) && filled)) → t ≡ refusal_of packed_counts
-  counts_as i j p q e = rw (p, q) at e
 
   -- The tests in turn: the counts, the edges, the words, the open bytes
 
@@ -132,31 +126,37 @@ module _ (B : Board) (syndrome loss support correction : List ℕ) where
 
   -- What the look before decoding answers
 
-  refuses_as : (r : Check) → test_of r ≢ none → decode_packed_refusal B syndrome loss support correction ≡ test_of r
+  refuses_as : (r : Result Unit Refusal) → test_of r ≢ none → decode_packed_refusal B syndrome loss support correction ≡ test_of r
       → Screened B syndrome loss support correction r
   refuses_as r fails e = record { refused = λ n p. e ∙ p; fitting = λ p. absurd (fails p); the_rest = λ p. absurd (fails p) }
 
-  -- the counts are refused
-  pub screened_first : (n : Refusal) → refusal_of packed_counts ≡ some n → Screened B syndrome loss support correction (Failed n)
-  screened_first n p = refuses_as (Failed n) (some-ne-none n) (in_turn ∙ rw p)
+  -- i and j are the counts of words, and c is the answer of the tests 1 to 3
+  module _ (i j : ℕ) (vertex_words : i ≡ word_count B.vertices) (edge_words : j ≡ word_count m) (c : Result Unit Refusal)
+      (counts : test_of c ≡ refusal_of (board_counts B ((sized syndrome i && sized loss j) && filled))) where
+    counted : test_of c ≡ refusal_of packed_counts
+    counted = rw (vertex_words, edge_words) at counts
 
-  -- a word is refused, but after ends and marks
-  pub screened_later : (r : Check) (n : Refusal) → refusal_of packed_counts ≡ none
-      → refusal_of (word_rules B.vertices syndrome m loss) ≡ some n → test_of r ≡ or_else (refusal_of (edge_rules B)) (some n)
-      → Screened B syndrome loss support correction r
-  screened_later r n p q e =
-      refuses_as r
-      (λ none_said. some-ne-none n (neither_fails (refusal_of (edge_rules B)) (some n) (sym e ∙ none_said)).1)
-      (in_turn ∙ rw (p, q) (first (refusal_of (edge_rules B)) (refusal_of (open_rules X))) ∙ sym e)
-    where
-      first : (t u : Test) → or_else (or_else t (some n)) u ≡ or_else t (some n)
-      first none u = refl
-      first (some k) u = refl
+    -- the counts are refused
+    pub screened_first : (n : Refusal) → c ≡ Err n → Screened B syndrome loss support correction (Err n)
+    screened_first n e = refuses_as (Err n) (some-ne-none n) (in_turn ∙ rw (sym counted ∙ ap test_of e))
 
-  -- both pass
-  pub screened_passed : refusal_of packed_counts ≡ none → refusal_of (word_rules B.vertices syndrome m loss) ≡ none
-      → Screened B syndrome loss support correction Passed
-  screened_passed p q =
-      let fit = counts_fit p in
-      let w = both_say B.vertices m syndrome loss (fit.syndrome_words, fit.loss_words) q in
-      record { refused = λ n e. absurd (none-ne-some n e); fitting = λ e. fit; the_rest = λ e. as_unpacked w.0 w.1 }
+    -- a word is refused, but after ends and marks
+    pub screened_later : (r : Result Unit Refusal) (n : Refusal) → c ≡ Ok tt
+        → refusal_of (word_rules B.vertices syndrome m loss) ≡ some n → test_of r ≡ or_else (refusal_of (edge_rules B)) (some n)
+        → Screened B syndrome loss support correction r
+    screened_later r n p q e =
+        refuses_as r
+        (λ none_said. some-ne-none n (neither_fails (refusal_of (edge_rules B)) (some n) (sym e ∙ none_said)).1)
+        (in_turn ∙ rw (passed _ c counted p, q) (first (refusal_of (edge_rules B)) (refusal_of (open_rules X))) ∙ sym e)
+      where
+        first : (t u : Test) → or_else (or_else t (some n)) u ≡ or_else t (some n)
+        first none u = refl
+        first (some k) u = refl
+
+    -- both pass
+    pub screened_passed : c ≡ Ok tt → refusal_of (word_rules B.vertices syndrome m loss) ≡ none
+        → Screened B syndrome loss support correction (Ok tt)
+    screened_passed p q =
+        let fit = counts_fit (passed _ c counted p) in
+        let w = both_say B.vertices m syndrome loss (fit.syndrome_words, fit.loss_words) q in
+        record { refused = λ n e. absurd (none-ne-some n e); fitting = λ e. fit; the_rest = λ e. as_unpacked w.0 w.1 }

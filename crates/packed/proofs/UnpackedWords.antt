@@ -16,12 +16,6 @@ use Rattle.packed.proofs.PastLast.{in_word}
 
 -- Bit by bit
 
-pub bits_begun : (word w : ℕ) (bytes : List ℕ) → BitsUnpacked word w 0 bytes bytes
-bits_begun word w bytes = record { long = refl; bits = λ j h. absurd (none j h); before = λ i h. refl; behind = λ j. refl }
-  where
-    none : (j : ℕ) → j < 0 → ⊥
-    none j h = omega arith
-
 pub bits_more : {word w k : ℕ} {bytes bytes' : List ℕ} → 64 * w + k < length bytes → BitsUnpacked word w k bytes bytes'
     → BitsUnpacked word w (k + 1) bytes (set bytes' (64 * w + k) (word / 2 ^ k % 2))
 bits_more {word} {w} {k} {bytes} {bytes'} h s =
@@ -74,12 +68,6 @@ word_passed {word} {w} {bytes} none zeros =
     }
 
 -- Word by word
-
-pub items_none : (words rest : List ℕ) → ItemsUnpacked words 0 rest rest
-items_none words rest = record { long = refl; items = λ i h l. absurd (none i h); others = λ j. refl }
-  where
-    none : (i : ℕ) → i < 64 * 0 → ⊥
-    none i h = omega arith
 
 pub items_more : {words : List ℕ} {w : ℕ} {rest bytes bytes' : List ℕ} → ItemsUnpacked words w rest bytes
     → WordUnpacked (get_or words w 0) w bytes bytes' → ItemsUnpacked words (w + 1) rest bytes'

@@ -8,17 +8,22 @@ use native.Mathlib.Omega.{arith}
 use borrow.Author.Tests.{leb-true, eqb-true, le-leb, eq-eqb}
 use lib.ListN.{length}
 use lib.Dec.{leb}
+use Rattle.std.specs.Prelude.{Option, Some, None}
+use Rattle.std.specs.Option.{option_or}
+use Rattle.std.proofs.lemmas.Bool.{false_from_ne_true}
+use Rattle.model.specs.declared.numbers.Word.{Word}
 use Rattle.model.specs.declared.refusal.Refusal.TheVariants.{VertexCount, EndCount, BufferLength, PastLast}
 use Rattle.model.specs.Sums.{or_else, first_up_to}
 use Rattle.model.specs.Board.{Board, ValidBytes, vertex_limit, edge_limit}
 use Rattle.model.specs.Words.{word_count, past_last, unpacked_sheet}
-use Rattle.model.specs.Refusals.{Rule, tested, refusal_of, sized, edges_of, vertex_count_rule, length_rule, byte_rules, open_rules}
+use Rattle.model.specs.Refusals.{Rule, Test, tested, refusal_of, sized, edges_of, vertex_count_rule, length_rule, byte_rules, open_rules}
 use Rattle.model.specs.WordRefusals.{word_rule, word_rules, words_sized, item_rules, pack_refusal, unpack_refusal, lit_refusal, packed_board_rules, packed_rules, decode_packed_refusal}
 use Rattle.model.specs.Precedence.{here}
-use Rattle.model.proofs.Xor.{and_left, and_right, not_true_false}
+use Rattle.model.proofs.Xor.{and_left, and_right}
 use Rattle.model.proofs.SumLaws.{first_none}
 use Rattle.model.proofs.RuleLists.{unless_passes, refusal_append}
 use Rattle.theory.proofs.Precedence.{none_exactly}
+use Rattle.packed.specs.Found.{word_found}
 use Rattle.board.proofs.Failures.{neither_fails, each_passes, passes_each}
 use Rattle.board.proofs.Passing.{bytes_say, say_bytes}
 
@@ -34,7 +39,7 @@ module _ (n : ℕ) (words : List ℕ) where
       record {
         count = long;
         none_past = λ w h.
-            not_true_false (past_last n words w) (λ past.
+            false_from_ne_true (past_last n words w) (λ past.
             (none_exactly (word_rule n words ∷ [])).0 (passes_each (word_rule n words ∷ []) (p, tt)) (PastLast (record { 0 = w }))
             (here (record { place = w; below = h; breaks = past; shows = refl })));
       }
@@ -57,6 +62,11 @@ unfolding word_rules
 say_both {n} {m} {syndrome} {loss} lit lost =
     passes_each (word_rules n syndrome m loss) (say_words n syndrome lit, (say_words m loss lost, tt))
 
+-- the refusal for a word that a look finds
+abbrev pub refusal_past : Option Word → Test
+refusal_past (Some w) = some (PastLast w)
+refusal_past None = none
+
 -- Both rules 19: the syndrome's words decide, or else those of the losses.
 module _ (n : ℕ) (lit : List ℕ) (m : ℕ) (lost : List ℕ) where
   pub syndrome_refused : {w : ℕ} → some w ≡ first_up_to (length lit) (past_last n lit)
@@ -73,6 +83,13 @@ module _ (n : ℕ) (lit : List ℕ) (m : ℕ) (lost : List ℕ) where
       → none ≡ refusal_of (word_rules n lit m lost)
   unfolding word_rules
   neither_refused p q = rw (← p, ← q)
+
+  -- the first word that either look finds decides
+  pub looks_say : (x y : Option Word) → word_found x ≡ first_up_to (length lit) (past_last n lit)
+      → word_found y ≡ first_up_to (length lost) (past_last m lost) → refusal_past (option_or x y) ≡ refusal_of (word_rules n lit m lost)
+  looks_say (Some w) y p q = syndrome_refused p
+  looks_say None (Some w) p q = loss_refused p q
+  looks_say None None p q = neither_refused p q
 
 -- Packing and unpacking: both counts are in range, and every buffer has the length that its count gives.
 pub record Items (n m : ℕ) (syndrome loss syndromeWords lossWords : List ℕ) : Type 0 where
@@ -126,13 +143,6 @@ module _ (n m : ℕ) (syndrome loss syndromeWords lossWords : List ℕ) where
         eq-eqb _ _ k.syndrome_words,
         eq-eqb _ _ k.loss_words,
       )
-
-  -- once the counts are in range the lengths decide; i and j are the counts of words
-  pub lengths_decide : (i j : ℕ) (fit : Bool) → 1 ≤ n → n ≤ vertex_limit → m ≤ edge_limit → i ≡ word_count n → j ≡ word_count m
-      → ((sized syndrome n && sized loss m) && (sized syndromeWords i && sized lossWords j)) ≡ fit
-      → refusal_of (item_rules n m syndrome loss syndromeWords lossWords) ≡ refusal_of (length_rule fit ∷ [])
-  lengths_decide i j fit some_vertex few_vertices few_edges p q e =
-      rw (le-leb _ _ some_vertex, le-leb _ _ few_vertices, le-leb _ _ few_edges, ← p, ← q, e)
 
   -- what they allow the later ones to index
   pub items_allow : refusal_of (item_rules n m syndrome loss syndromeWords lossWords) ≡ none

@@ -1,9 +1,8 @@
--- What the look for bits past the last item stands for. Assumes nothing.
-use Rattle.std.specs.Prelude.{ℕ}
-use Rattle.std.proofs.Math.Option.{Option, none, some}
-use Rattle.packed.specs.declared.words.FoundWord.{FoundWord}
-use Rattle.packed.specs.declared.words.FoundWord.TheVariants.{At, Nothing}
+-- What the look for bits past the last item stands for: the number of the word that it found. Assumes nothing.
+use Rattle.std.specs.Prelude.{ℕ, Option, Some, None}
+use Rattle.std.proofs.Math.Option as number
+use Rattle.model.specs.declared.numbers.Word.{Word}
 
-abbrev pub word_found : FoundWord → Option ℕ
-word_found (At w) = some w.0
-word_found Nothing = none
+abbrev pub word_found : Option Word → number.Option ℕ
+word_found (Some w) = number.some w.0
+word_found None = number.none

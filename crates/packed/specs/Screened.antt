@@ -1,12 +1,11 @@
 -- What is known of a packed sheet before it is unpacked. No part of what a reader must believe. Assumes nothing.
-use Rattle.std.specs.Prelude.{ℕ, ◌≤◌, ◌≡◌, List, length, replicate}
+use Rattle.std.specs.Prelude.{ℕ, ◌≤◌, ◌≡◌, List, length, replicate, Result}
 use Rattle.std.proofs.Math.Option.{none, some}
 use Rattle.model.specs.declared.refusal.Refusal.{Refusal}
 use Rattle.model.specs.Board.{Board, vertex_limit, edge_limit}
 use Rattle.model.specs.Words.{word_count, unpacked_sheet}
 use Rattle.model.specs.Refusals.{edges_of, decode_refusal}
 use Rattle.model.specs.WordRefusals.{decode_packed_refusal}
-use Rattle.board.specs.declared.outcome.Check.{Check}
 use Rattle.board.specs.Checks.{test_of}
 
 -- the counts are within the limits, and there are as many words as they fill
@@ -18,7 +17,7 @@ pub record Fitting (B : Board) (lit lost : List ℕ) : Type 0 where
 
 -- What a look at the words before decoding says: its refusal is that of the call; where it has none, the words fit, and the rest of the
 -- tests are those of decoding.
-pub record Screened (B : Board) (lit lost support correction : List ℕ) (r : Check) : Type 0 where
+pub record Screened (B : Board) (lit lost support correction : List ℕ) (r : Result Unit Refusal) : Type 0 where
   pub refused : (n : Refusal) → test_of r ≡ some n → decode_packed_refusal B lit lost support correction ≡ some n
   pub fitting : test_of r ≡ none → Fitting B lit lost
   pub the_rest : test_of r ≡ none

@@ -18,8 +18,9 @@ use crate::decoding::decode_words;
 use crate::listing::{list_bits, set_bits};
 use crate::packing::pack_items;
 use crate::unpacking::unpack_items;
-use board::outcome::Check;
-use model::answers::{Decoded, Lit, Packed, Reading};
+use model::answers::{Counts, Key, WordCounts};
+use model::lent::PackedSheet;
+use model::refusal::Refusal;
 
 // The words of a syndrome and of the losses, from their bytes: how many there are of each; or a refusal, which writes nothing.
 pub fn pack(
@@ -29,20 +30,18 @@ pub fn pack(
     loss: &[u8],
     lit: &mut [u64],
     lost: &mut [u64],
-) -> Packed
+) -> Result<WordCounts, Refusal>
     ensures outcome { Packs vertices edges syndrome.now loss.now lit.old lost.old
         result lit.new lost.new }
     ensures sound { PacksSoundly vertices edges syndrome.now loss.now result lit.new lost.new }
 {
-    if let Check::Failed(refusal) = check_pack(vertices, edges, syndrome, loss, lit, lost) {
-        return Packed::Refused(refusal);
-    }
+    check_pack(vertices, edges, syndrome, loss, lit, lost)?;
     pack_items(syndrome, lit);
     pack_items(loss, lost);
-    Packed::Words {
+    Ok(WordCounts {
         syndrome: lit.len(),
         loss: lost.len(),
-    }
+    })
 }
 
 // The bytes of a syndrome and of the losses, from their words: both counts; or a refusal, which writes nothing.
@@ -53,65 +52,48 @@ pub fn unpack(
     lost: &[u64],
     syndrome: &mut [u8],
     loss: &mut [u8],
-) -> Reading
+) -> Result<Counts, Refusal>
     ensures outcome { Unpacks vertices edges lit.now lost.now syndrome.old loss.old
         result syndrome.new loss.new }
     ensures sound { UnpacksSoundly vertices edges lit.now lost.now result syndrome.new loss.new }
 {
-    if let Check::Failed(refusal) = check_unpack(vertices, edges, lit, lost, syndrome, loss) {
-        return Reading::Refused(refusal);
-    }
+    check_unpack(vertices, edges, lit, lost, syndrome, loss)?;
     unpack_items(lit, syndrome);
     unpack_items(lost, loss);
-    Reading::Counts { vertices, edges }
+    Ok(Counts { vertices, edges })
 }
 
 // How many vertices of a packed syndrome are lit: the number of set bits in all its words.
-pub fn lit_total(vertices: usize, lit: &[u64]) -> Lit
+pub fn lit_total(vertices: usize, lit: &[u64]) -> Result<usize, Refusal>
     ensures outcome { Totals vertices lit.now result }
     ensures sound { TotalsSoundly vertices lit.now result }
 {
-    if let Check::Failed(refusal) = check_lit(vertices, lit, true) {
-        return Lit::Refused(refusal);
-    }
-    Lit::Total(set_bits(lit))
+    check_lit(vertices, lit, true)?;
+    Ok(set_bits(lit))
 }
 
 // The lit vertices of a packed syndrome, rising, at the front of a list with an entry for each vertex: their total. The rest of the list
 // stays; a refusal writes nothing.
-pub fn list_lit(vertices: usize, lit: &[u64], list: &mut [u16]) -> Lit
+pub fn list_lit(vertices: usize, lit: &[u64], list: &mut [u16]) -> Result<usize, Refusal>
     ensures outcome { Lists vertices lit.now list.old result list.new }
     ensures sound { TotalsSoundly vertices lit.now result }
 {
     let sized = list.len() == vertices;
-    if let Check::Failed(refusal) = check_lit(vertices, lit, sized) {
-        return Lit::Refused(refusal);
-    }
-    Lit::Total(list_bits(lit, list))
+    check_lit(vertices, lit, sized)?;
+    Ok(list_bits(lit, list))
 }
 
 // The key of a packed sheet, as `decode` gives that of its bytes.
 pub fn decode_packed(
-    vertices: usize,
-    ends: &[u16],
-    marks: &[u8],
-    opened: &[u8],
-    lit: &[u64],
-    lost: &[u64],
+    sheet: PackedSheet<'_>,
     support: &mut [u8],
     correction: &mut [u8],
-) -> Decoded
-    ensures key { DecodesPacked (board_lent vertices ends.now marks.now opened.now) lit.now lost.now
+) -> Result<Key, Refusal>
+    ensures key { DecodesPacked (board_lent sheet.entry.board) sheet.entry.lit.now sheet.entry.lost.now
         support.old correction.old result support.new correction.new }
-    ensures sound { DecodesPackedSoundly (board_lent vertices ends.now marks.now opened.now) lit.now lost.now
+    ensures sound { DecodesPackedSoundly (board_lent sheet.entry.board) sheet.entry.lit.now sheet.entry.lost.now
         support.old correction.old result support.new correction.new }
 {
-    if let Check::Failed(refusal) = screen(
-        vertices, ends, marks, opened, lit, lost, support, correction,
-    ) {
-        return Decoded::Refused(refusal);
-    }
-    decode_words(
-        vertices, ends, marks, opened, lit, lost, support, correction,
-    )
+    screen(sheet, support, correction)?;
+    decode_words(sheet, support, correction)
 }

@@ -12,25 +12,19 @@ pub(crate) fn set_bits(words: &[u64]) -> usize
     requires { length words.now ≤ vertex_limit }
     ensures { result ≡ lit_total words.now }
 {
-    let mut total = 0;
-    let mut w = 0;
-    while w < words.len() {
-        total += u64::count_ones(words[w]) as usize;
-        w += 1;
-    }
-    total
+    words.iter().map(|word| word.count_ones() as usize).sum()
 }
 
-// The vertices of one word, from set bit to set bit: the lowest is found and cleared until none is left. They go to the list from entry
-// `from` on; `first` is the vertex of bit 0.
-fn list_word(word: u64, first: usize, list: &mut [u16], from: usize) -> usize
-    requires { (first ≤ vertex_limit) × (from + length (bits_from 64 first word) ≤ length list.old) }
-    ensures { Stored (bits_from 64 first word) list.old from list.new result }
+// The vertices of one word, from set bit to set bit: the lowest is found and cleared until none is left. They go to the front of the list,
+// and the answer says how many there are; `first` is the vertex of bit 0.
+fn list_word(word: u64, first: usize, list: &mut [u16]) -> usize
+    requires { (first ≤ vertex_limit) × (length (bits_from 64 first word) ≤ length list.old) }
+    ensures { Stored (bits_from 64 first word) list.old 0 list.new result }
 {
     let mut rest = word;
-    let mut at = from;
+    let mut at = 0;
     while rest != 0 {
-        let k = u64::trailing_zeros(rest);
+        let k = rest.trailing_zeros();
         let vertex = first + k as usize;
         list[at] = vertex as u16;
         rest -= 1u64 << k;
@@ -45,10 +39,8 @@ pub(crate) fn list_bits(words: &[u64], list: &mut [u16]) -> usize
     ensures { Stored (items_in (length words.now) words.now) list.old 0 list.new result }
 {
     let mut listed = 0;
-    let mut w = 0;
-    while w < words.len() {
-        listed = list_word(words[w], WORD * w, list, listed);
-        w += 1;
+    for (w, word) in words.iter().enumerate() {
+        listed += list_word(*word, WORD * w, &mut list[listed..]);
     }
     listed
 }

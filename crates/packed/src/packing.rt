@@ -12,10 +12,8 @@ fn packed_word(bytes: &[u8], w: usize) -> u64
     ensures { result ≡ number_with 64 (items_of (length bytes.now) (ones bytes.now) w) }
 {
     let first = WORD * w;
-    let mut k = items_in(bytes.len(), w);
     let mut word = 0;
-    while k > 0 {
-        k -= 1;
+    for k in (0..items_in(bytes.len(), w)).rev() {
         word = 2 * word + bytes[first + k] as u64;
     }
     word
@@ -26,9 +24,7 @@ pub(crate) fn pack_items(bytes: &[u8], words: &mut [u64])
     requires { ValidBytes (length bytes.now) bytes.now × (length words.old ≡ word_count (length bytes.now)) }
     ensures { words.new ≡ words_of (length bytes.now) (ones bytes.now) }
 {
-    let mut w = 0;
-    while w < words.len() {
-        words[w] = packed_word(bytes, w);
-        w += 1;
+    for (w, word) in words.iter_mut().enumerate() {
+        *word = packed_word(bytes, w);
     }
 }

@@ -11,18 +11,11 @@ use model::numbers::Word;
 // The bits of a word.
 pub const WORD: usize = 64;
 
-// What a look for bits past the last item finds: the word that has one, or none.
-#[derive(Clone, Copy)]
-pub enum FoundWord {
-    At(Word),
-    Nothing,
-}
-
-// How many words so many items fill: the full ones, and one more where some are left. No count is too large for it.
+// How many words so many items fill: the full ones, and one more where some are left.
 pub(crate) fn word_count(items: usize) -> usize
     ensures { result ≡ word_count items }
 {
-    items / WORD + (items % WORD + (WORD - 1)) / WORD
+    items.div_ceil(WORD)
 }
 
 // How many items word w has: 64, or as many as are left.
@@ -30,25 +23,21 @@ pub(crate) fn items_in(items: usize, w: usize) -> usize
     requires { 64 * w < items }
     ensures { WordItems items w result }
 {
-    let rest = items - WORD * w;
-    if rest < WORD {
-        return rest;
-    }
-    WORD
+    (items - WORD * w).min(WORD)
 }
 
 // The first word with a bit past the last item. Only the last word can have one, where the items don't fill it.
-pub(crate) fn past_last(items: usize, words: &[u64]) -> FoundWord
+pub(crate) fn past_last(items: usize, words: &[u64]) -> Option<Word>
     requires { (items ≤ edge_limit) × (length words.now ≡ word_count items) }
     ensures { word_found result ≡ first_up_to (length words.now) (past_last items words.now) }
 {
     let last = items / WORD;
     let rest = items % WORD;
     if rest == 0 {
-        return FoundWord::Nothing;
+        return None;
     }
     if words[last] >> rest == 0 {
-        return FoundWord::Nothing;
+        return None;
     }
-    FoundWord::At(Word(last as u16))
+    Some(Word(last as u16))
 }

@@ -1,25 +1,21 @@
 -- The pass over the edges: joining the ends of each makes the trees the parts of the whole board. Assumes nothing.
-use Prim.Native.Nat.{ℕ, ◌+◌, ◌*◌, ◌≤◌, ◌<◌}
+use Prim.Native.Nat.{ℕ, ◌+◌, ◌*◌, ◌<◌}
 use mathlib.Core.Path.{◌≡◌, refl, sym}
 use mathlib.Core.Bool.{true}
 use mathlib.Core.List.{List}
 use native.Mathlib.Nat.{le_of_eq}
 use native.Mathlib.Numerals.{add-one}
-use lib.ListN.{get_or, replicate, length-replicate}
-use Rattle.model.specs.Board.{EndsWithin, plain, vertex_limit}
+use lib.ListN.{get_or, length-replicate}
+use Rattle.model.specs.Board.{EndsWithin, plain}
 use Rattle.model.specs.Components.{labels}
 use Rattle.model.specs.Decoding.{parts}
 use Rattle.model.specs.Refusals.{edges_of}
 use Rattle.theory.proofs.Components.{labels_length}
 use Rattle.union_find.specs.declared.Joined.{Joined}
-use Rattle.union_find.specs.Packed.{parents_of, Fits, EachAlone, JoinsIn}
+use Rattle.union_find.specs.Packed.{parents_of, EachAlone, JoinsIn}
 use Rattle.union_find.proofs.Packing.{alone_packed, packed_alone, rejoined}
 use Rattle.union_find.proofs.Labels.{mirrors_alone, mirrors_joined}
 use Rattle.parts.specs.Connection.{ConnectsUpTo, Connects}
-
--- a fresh array has room for n vertices
-pub fresh_room : {n : ℕ} (m : ℕ) → n ≤ vertex_limit → n ≤ m → Fits n (replicate m 0)
-fresh_room m limit fits = record { limit = limit; room = rw (length-replicate {A = ℕ} m 0) fits }
 
 -- at first every vertex is alone
 pub connects_none : {n : ℕ} {ends t : List ℕ} → EachAlone n t → ConnectsUpTo n ends 0 t

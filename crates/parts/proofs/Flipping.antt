@@ -1,5 +1,5 @@
 -- The pass over the vertices: each syndrome vertex flips its root's parity. Assumes nothing.
-use Prim.Native.Nat.{ℕ, ◌+◌, ◌-◌, ◌≤◌, ◌<◌}
+use Prim.Native.Nat.{ℕ, ◌+◌, ◌-◌, ◌<◌}
 use mathlib.Core.Path.{◌≡◌, refl, sym, ap, ◌∙◌}
 use mathlib.Core.Logic.{◌≢◌}
 use mathlib.Core.List.{List}
@@ -12,7 +12,7 @@ use lib.Seq.{get_or-set_same, get_or-set_other}
 use Rattle.model.specs.Sums.{bit, odd_up_to}
 use Rattle.model.specs.Board.{vertex_limit}
 use Rattle.model.proofs.Xor.{xor_false}
-use Rattle.model.proofs.Bits.{bit_bound, bit_flip}
+use Rattle.model.proofs.Bits.{bit_flip}
 use Rattle.union_find.specs.Trees.{root_of}
 use Rattle.parts.specs.RootParities.{odd_at_root, Parities}
 
@@ -21,11 +21,6 @@ pub parities_none : {parent syndrome : List ℕ} (m : ℕ) → m ≡ vertex_limi
 unfolding odd_up_to
 parities_none m long =
     record { long = length-replicate m 0 ∙ long; at = λ r h. get_or-replicate m r 0 0 (omega arith) }
-
--- a parity is 0 or 1
-pub parity_small : {k : ℕ} {parent syndrome odd : List ℕ} → Parities k parent syndrome odd → (r : ℕ) → r < vertex_limit → get_or odd r 0 ≤ 1
-parity_small {k} {parent} {syndrome} w r h =
-    rw (w.at r h) (bit_bound (odd_at_root k parent syndrome r))
 
 -- a syndrome vertex flips the parity at its root
 pub parities_flip :

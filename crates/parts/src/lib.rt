@@ -15,8 +15,8 @@ ghost use Rattle.parts.specs.RootParities.{Parities, Marked, Cleared, marked};
 ghost use Rattle.parts.specs.Searchable.{Searchable};
 
 use board::largest::largest_byte;
-use board::outcome::FoundVertex;
 use model::ends::{first_end, second_end};
+use model::lent::Sheet;
 use model::limits::VERTICES;
 use model::numbers::{Edge, Vertex};
 use union_find::{alone, join, root_of};
@@ -28,15 +28,11 @@ fn connect(vertices: usize, ends: &[u16]) -> [u16; VERTICES]
 {
     let mut tree = [0u16; VERTICES];
     alone(vertices, &mut tree);
-    let edges = ends.len() / 2;
-    let mut e = 0;
-    while e < edges {
-        let number = e as u16;
-        let edge = Edge(number);
+    for e in 0..ends.len() / 2 {
+        let edge = Edge(e as u16);
         let a = first_end(ends, edge);
         let b = second_end(ends, edge);
         join(&mut tree, a, b);
-        e += 1;
     }
     tree
 }
@@ -47,15 +43,12 @@ fn parities(tree: &[u16; VERTICES], syndrome: &[u8]) -> [u8; VERTICES]
     ensures { Parities (length syndrome.now) (parents_of tree.now) syndrome.now result }
 {
     let mut odd = [0u8; VERTICES];
-    let mut v = 0;
-    while v < syndrome.len() {
-        if syndrome[v] == 1 {
-            let lit = v as u16;
-            let root = root_of(tree, Vertex(lit));
+    for (v, lit) in syndrome.iter().enumerate() {
+        if *lit == 1 {
+            let root = root_of(tree, Vertex(v as u16));
             let r = root.0 as usize;
             odd[r] = 1 - odd[r];
         }
-        v += 1;
     }
     odd
 }
@@ -65,46 +58,41 @@ fn clear_open(tree: &[u16; VERTICES], opened: &[u8], odd: &mut [u8; VERTICES])
     requires { Marked (length opened.now) (parents_of tree.now) odd.old }
     ensures { Cleared (length opened.now) (parents_of tree.now) opened.now odd.old odd.new }
 {
-    let mut v = 0;
-    while v < opened.len() {
-        if opened[v] == 1 {
-            let number = v as u16;
-            let root = root_of(tree, Vertex(number));
+    for (v, open) in opened.iter().enumerate() {
+        if *open == 1 {
+            let root = root_of(tree, Vertex(v as u16));
             odd[root.0 as usize] = 0;
         }
-        v += 1;
     }
 }
 
 // The smallest vertex whose root has a 1. Roots are in no order, so the vertices are gone through and not the roots.
-fn first_marked(vertices: usize, tree: &[u16; VERTICES], odd: &[u8; VERTICES]) -> FoundVertex
+fn first_marked(vertices: usize, tree: &[u16; VERTICES], odd: &[u8; VERTICES]) -> Option<Vertex>
     requires { Marked vertices (parents_of tree.now) odd.now }
     ensures { vertex_found result ≡ first_up_to vertices (marked (parents_of tree.now) odd.now) }
 {
-    let mut next = 0;
-    while next < vertices {
-        let number = next as u16;
-        let vertex = Vertex(number);
+    for next in 0..vertices {
+        let vertex = Vertex(next as u16);
         let root = root_of(tree, vertex);
         if odd[root.0 as usize] == 1 {
-            return FoundVertex::At(vertex);
+            return Some(vertex);
         }
-        next += 1;
     }
-    FoundVertex::Nothing
+    None
 }
 
 // The smallest vertex of all odd parts of the whole board. Vertices are gone through only where some root has a 1.
-pub fn first_odd(vertices: usize, ends: &[u16], opened: &[u8], syndrome: &[u8]) -> FoundVertex
-    requires { Searchable vertices ends.now opened.now syndrome.now }
-    ensures { vertex_found result ≡ smallest_odd (unmarked vertices (edges_of ends.now) ends.now opened.now)
-        (ones syndrome.now) }
+pub fn first_odd(sheet: Sheet<'_>) -> Option<Vertex>
+    requires { Searchable sheet.board.vertices sheet.board.ends.now sheet.board.opened.now sheet.syndrome.now }
+    ensures { vertex_found result ≡ smallest_odd (unmarked sheet.entry.board.vertices (edges_of sheet.entry.board.ends.now)
+        sheet.entry.board.ends.now sheet.entry.board.opened.now) (ones sheet.entry.syndrome.now) }
 {
-    let tree = connect(vertices, ends);
-    let mut odd = parities(&tree, syndrome);
-    clear_open(&tree, opened, &mut odd);
+    let vertices = sheet.board.vertices;
+    let tree = connect(vertices, sheet.board.ends);
+    let mut odd = parities(&tree, sheet.syndrome);
+    clear_open(&tree, sheet.board.opened, &mut odd);
     if largest_byte(&odd) == 0 {
-        return FoundVertex::Nothing;
+        return None;
     }
     first_marked(vertices, &tree, &odd)
 }

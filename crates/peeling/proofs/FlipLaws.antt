@@ -24,9 +24,6 @@ pub record Flipping (p : List ℕ) (v : ℕ) (odd₀ : List Bool) (w : ℕ) (odd
   pub each : (z : ℕ) → at p z ≢ z → odd_below odd z ⊕ under p z w ≡ odd_below odd₀ z ⊕ under p z v
   pub roots : (z : ℕ) → at p z ≡ z → odd_below odd z ≡ odd_below odd₀ z
 
-pub flipping_start : {p : List ℕ} {odd : List Bool} {v : ℕ} → Flippable p odd v → Flipping p v odd v odd
-flipping_start f = record { ready = f; same_length = refl; each = λ z q. refl; roots = λ z q. refl }
-
 -- an entry that flips
 entry : (l : List Bool) (w z : ℕ) → w < length l → odd_below (set l w (not (odd_below l w))) z ≡ odd_below l z ⊕ eqb w z
 entry l w z h =

@@ -11,13 +11,14 @@ use native.Mathlib.Omega.{arith}
 use borrow.Author.Tests.{eq-eqb, ne_eqb, lt-ltb, le-ltb}
 use lib.ListN.{length}
 use lib.Dec.{eqb, ltb}
+use Rattle.std.proofs.lemmas.Bool.{false_from_ne_true}
 use Rattle.model.specs.Sums.{Set, ◌⊕◌, bit, odd_up_to, count_up_to}
 use Rattle.model.specs.Board.{Board, Inside, edges, first_end, second_end}
 use Rattle.model.specs.Syndrome.{meets, odd_end, HasOddEnds}
 use Rattle.model.specs.Winding.{together}
 use Rattle.model.specs.Components.{label, labels_up_to}
 use Rattle.model.specs.Forest.{forest}
-use Rattle.model.proofs.Xor.{xor_false, xor_and, equal_xor, not_true_false, xor_twice}
+use Rattle.model.proofs.Xor.{xor_false, xor_and, equal_xor, xor_twice}
 use Rattle.model.proofs.SumLaws.{odd_cong, odd_xor, odd_and, odd_none}
 use Rattle.theory.proofs.Syndromes.{odd_end_cong, odd_end_together, odd_end_edge, ends_parity, cut}
 use Rattle.theory.proofs.Components.{edge_label}
@@ -173,12 +174,12 @@ module _ (B : Board) (r : Inside B) (F D : Set) (sub : Within B D (forest B F)) 
       }
     where
       is : D k ≡ false
-      is = not_true_false (D k) (λ q. false≢true (sym out ∙ sub.holds k h q))
+      is = false_from_ne_true (D k) (λ q. false≢true (sym out ∙ sub.holds k h q))
 
   -- an edge of the forest is cut exactly where D has it
-  pub peeling_next : {k link : ℕ} {below : List Bool} {written : List ℕ} {count : ℕ} {c : ℕ} {below' : List Bool} {written' : List ℕ}
+  pub peeling_next : {k link : ℕ} {below : List Bool} {written : List ℕ} {count : ℕ} {c : Bool} {below' : List Bool} {written' : List ℕ}
       → k < edges B → length written ≡ edges B → HungBy B F p k link → Cuts B.ends p below written k link c below' written'
-      → Peeling B D p (suc k) below written count → Peeling B D p k below' written' (count + c)
+      → Peeling B D p (suc k) below written count → Peeling B D p k below' written' (count + bit c)
   unfolding count_up_to
   peeling_next {k} {link} {below} {written} {count} {c} {below'} {written'} h long hung cuts w =
       record {
@@ -191,7 +192,7 @@ module _ (B : Board) (r : Inside B) (F D : Set) (sub : Within B D (forest B F)) 
           | no q ↦ rw bytes (marked_other (D k) k e written q ∙ w.bits e (omega arith) i)
         ];
         clear = record { each = λ e l. rw bytes (marked_other (D k) k e written (λ q. omega arith) ∙ w.clear.each e (omega arith)) };
-        counted = omega (arith, w.counted, cuts.answer, ap bit is);
+        counted = omega (arith, w.counted, ap bit cuts.answer, ap bit is);
       }
     where
       is : odd_below below link ≡ D k

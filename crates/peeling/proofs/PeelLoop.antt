@@ -11,16 +11,17 @@ use Rattle.model.specs.Board.{Board, edges, plain, vertex_limit}
 use Rattle.model.specs.Growth.{full, clusters}
 use Rattle.model.specs.Syndrome.{HasOddEnds}
 use Rattle.model.specs.Forest.{forest}
+use Rattle.model.proofs.Bits.{bit_bound}
 use Rattle.model.proofs.ListLaws.{values_are}
 use Rattle.theory.proofs.Corrections.{spanned_in_forest, spanned_has_ends}
 use Rattle.theory.proofs.Forests.{Within}
 use Rattle.theory.proofs.MarksAside.{unmarked_inside}
 use Rattle.union_find.specs.Trees.{at}
 use Rattle.peeling.specs.TreeFlips.{odd_below, AllFlippable, AllFlipped}
-use Rattle.peeling.specs.Links.{HungBy, place, SpanRoom, Spans}
+use Rattle.peeling.specs.Links.{HungBy, place, Spans}
 use Rattle.peeling.specs.Peeling.{Cuttable, Cuts, Clears, Peelable, correction_of, Peels}
 use Rattle.peeling.proofs.FlipLaws.{still_flippable}
-use Rattle.peeling.proofs.CutLaws.{cut_bound, marked_long}
+use Rattle.peeling.proofs.CutLaws.{marked_long}
 use Rattle.peeling.proofs.PeelLaws.{Peeling, peeling_start, peeling_next, Reached, last, done, reach}
 
 -- a fresh array of parities
@@ -45,15 +46,6 @@ pub record PeelingFrom (vertices : ℕ) (ends support odd_ends p : List ℕ) (wr
   pub flippable : AllFlippable vertices p below
   pub state : Peeling (plain vertices (length support) ends) (correction_of vertices ends support odd_ends) p edge below written count
 
--- What the calls before the loop ask
-
-pub span_room : {vertices : ℕ} {ends support odd_ends written : List ℕ} (k : ℕ) → vertices ≤ k
-    → Peelable vertices ends support odd_ends written → SpanRoom vertices ends support (replicate k 0) (replicate k 0) (replicate k 0)
-span_room {vertices} k h w = record { board = w.board; tree_room = room; edge_room = room; link_room = room }
-  where
-    room : vertices ≤ length (replicate {A = ℕ} k 0)
-    room = rw (length-replicate {A = ℕ} k 0) h
-
 module _ {vertices : ℕ} {ends support odd_ends lent p taken links : List ℕ} {listed : ℕ} (w : Peelable vertices ends support odd_ends lent)
     (t : Spans vertices ends support listed p taken links) where
   abbrev B : Board
@@ -65,9 +57,6 @@ module _ {vertices : ℕ} {ends support odd_ends lent p taken links : List ℕ} 
   fresh_flippable : (k : ℕ) → vertices ≤ k → AllFlippable vertices p (replicate k false)
   fresh_flippable k h =
       record { size = t.size; climbs = t.trees.climbs; room = rw (length-replicate {A = Bool} k false) h }
-
-  pub ends_flippable : (k : ℕ) → vertices ≤ k → AllFlippable (length odd_ends) p (replicate k false)
-  ends_flippable k h = rw w.end_bytes (fresh_flippable k h)
 
   -- The loop begins
 
@@ -135,21 +124,22 @@ module _ {vertices : ℕ} {ends support odd_ends lent p taken links : List ℕ} 
           vertex = due.hung.vertex;
         }
 
-    pub from_next : {c : ℕ} {below' : List Bool} {written' : List ℕ}
-        → Cuts ends p below written (at taken (k - 1)) (at links (k - 1)) c below' written'
-        → PeelingFrom vertices ends support odd_ends p written' below' (k - 1) (count + c)
-    from_next {c} {below'} {written'} cuts =
+    pub from_next : {c : Bool} {count' : ℕ} {below' : List Bool} {written' : List ℕ}
+        → Cuts ends p below written (at taken (k - 1)) (at links (k - 1)) c below' written' → count' ≡ count + bit c
+        → PeelingFrom vertices ends support odd_ends p written' below' (k - 1) count'
+    from_next {c} {count'} {below'} {written'} cuts more =
         let all = edge_count vertices ends support in
         record {
           edge = at taken (k - 1);
           within = omega (arith, due.within);
           left = omega (arith, due.left);
           long = ap length cuts.bytes_are ∙ marked_long (odd_below below (at links (k - 1))) (at taken (k - 1)) written ∙ s.long;
-          small = omega (arith, s.small, cut_bound cuts);
+          small = omega (arith, s.small, more, bit_bound c);
           flippable = still_flippable s.flippable cuts.same_length;
           state =
-              peeling_next B (unmarked_inside w.board) (full support) D in_forest (omega (arith, due.within, all)) (s.long ∙ sym all)
-              due.hung cuts due.state;
+              rw more
+              (peeling_next B (unmarked_inside w.board) (full support) D in_forest (omega (arith, due.within, all)) (s.long ∙ sym all)
+              due.hung cuts due.state);
         }
 
   -- The loop ends

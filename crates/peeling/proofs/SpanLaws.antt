@@ -24,7 +24,7 @@ use Rattle.theory.proofs.Components.{labels_length}
 use Rattle.theory.proofs.Forests.{forest_is}
 use Rattle.union_find.specs.declared.Joined.{Joined}
 use Rattle.union_find.specs.Trees.{at, root_of, Trees, TwoRoots, Alone, hung}
-use Rattle.union_find.specs.Packed.{parents_of, Packed, Fits, EachAlone}
+use Rattle.union_find.specs.Packed.{parents_of, Packed, EachAlone}
 use Rattle.union_find.specs.Joining.{Joins, same_root, Mirrors}
 use Rattle.union_find.proofs.Roots.{root_top, root_inside}
 use Rattle.union_find.proofs.Hanging.{hung_parent, other_parent}
@@ -166,22 +166,18 @@ pub record Spanning (vertices : ℕ) (ends support t taken links : List ℕ) (k 
   pub edge_room : vertices ≤ length taken
   pub link_room : vertices ≤ length links
 
-pub tree_fits : {vertices : ℕ} {ends support t taken links : List ℕ} → SpanRoom vertices ends support t taken links → Fits vertices t
-tree_fits w = record { limit = w.board.vertices_limited; room = w.tree_room }
-
-pub spanning_start : {vertices k : ℕ} {ends support t₀ t taken links : List ℕ} → k ≡ 0
-    → SpanRoom vertices ends support t₀ taken links → EachAlone vertices t → Spanning vertices ends support t taken links k 0
+pub spanning_start : {vertices : ℕ} {ends support t₀ t taken links : List ℕ} → SpanRoom vertices ends support t₀ taken links
+    → EachAlone vertices t → Spanning vertices ends support t taken links 0 0
 unfolding count_up_to
-spanning_start {vertices} {ends = ends} {support} none room a =
-    rw none
-    (record {
+spanning_start {vertices} {ends = ends} {support} room a =
+    record {
       packed = packed_alone a;
       mirrors = mirrors_alone (plain vertices (length support) ends) (full support) (alone_packed a);
       listed = record { counted = refl; each = λ e h. absurd (not-suc-le-zero h) };
       hung_count = sym (alone_hangs (alone_packed a));
       edge_room = room.edge_room;
       link_room = room.link_room;
-    })
+    }
 
 module _ {vertices : ℕ} {ends support t taken links : List ℕ} {k count : ℕ} (board : EndsWithin vertices (length support) ends)
     (w : Spanning vertices ends support t taken links k count) (h : k < length support) where
@@ -211,25 +207,24 @@ module _ {vertices : ℕ} {ends support t taken links : List ℕ} {k count : ℕ
       (mirrors_joined B (full support) k is_full w.mirrors trees (le_of_eq (sym (labels_length B (full support) k))) first second i)
 
   -- it is not full
-  pub spanning_passed : {k' : ℕ} → full support k ≡ false → k' ≡ k + 1 → Spanning vertices ends support t taken links k' count
-  spanning_passed out next =
-      rw next
-      (record {
+  pub spanning_passed : full support k ≡ false → Spanning vertices ends support t taken links (k + 1) count
+  spanning_passed out =
+      record {
         packed = w.packed;
         mirrors = rw (add-one k) (mirrors_passed B (full support) k out w.mirrors);
         listed = listed_passed (forest_is B (full support) k ∙ rw out) w.listed;
         hung_count = w.hung_count;
         edge_room = w.edge_room;
         link_room = w.link_room;
-      })
+      }
 
   -- it is full and taken
-  pub spanning_next : {k' r : ℕ} {t' taken' links' : List ℕ} → full support k ≡ true
-      → Takes ends t taken links count k r t' taken' links' → k' ≡ k + 1 → Spanning vertices ends support t' taken' links' k' r
-  spanning_next is_full (appended x y i more edge link) next =
+  pub spanning_next : {r : ℕ} {t' taken' links' : List ℕ} → full support k ≡ true
+      → Takes ends t taken links count k r t' taken' links' → Spanning vertices ends support t' taken' links' (k + 1) r
+  spanning_next is_full (appended x y i more edge link) =
       let then = rejoined w.packed first second i in
       let is = hung_is trees first second then.joins in
-      rw (next, more, edge, link)
+      rw (more, edge, link)
       (record {
         packed = then.packed;
         mirrors = mirrors_next is_full then.joins;
@@ -241,10 +236,10 @@ module _ {vertices : ℕ} {ends support t taken links : List ℕ} {k count : ℕ
         edge_room = rw (length-set taken count k) w.edge_room;
         link_room = rw (length-set links count x.0) w.link_room;
       })
-  spanning_next is_full (passed z i same edge link) next =
+  spanning_next is_full (passed z i same edge link) =
       let then = rejoined w.packed first second i in
       let is = already_is trees first second then.joins in
-      rw (next, same, edge, link)
+      rw (same, edge, link)
       (record {
         packed = then.packed;
         mirrors = mirrors_next is_full then.joins;

@@ -2,7 +2,7 @@
 -- the same of its own result.
 -- Assumes nothing.
 use Rattle.std.specs.Prelude.{ℕ, ◌+◌, ◌*◌, ◌<◌, ◌≡◌, ◌≢◌, Bool, true, false, ◌&&◌, List, length, get_or, set}
-use Rattle.model.specs.Sums.{Set, ◌⊕◌, bit, ones, bytes, count_up_to}
+use Rattle.model.specs.Sums.{Set, ◌⊕◌, ones, bytes, count_up_to}
 use Rattle.model.specs.Board.{Board, EndsWithin, plain}
 use Rattle.model.specs.Growth.{full, oddly_lit, clusters}
 use Rattle.model.specs.Correction.{spanned}
@@ -27,9 +27,9 @@ marked true e written = set written e 1
 marked false e written = written
 
 -- it is in the correction where what hangs at its link is odd, and then its two ends flip
-pub record Cuts (ends parent : List ℕ) (below : List Bool) (written : List ℕ) (e link r : ℕ) (below' : List Bool) (written' : List ℕ)
-    : Type 0 where
-  pub answer : r ≡ bit (odd_below below link)
+pub record Cuts (ends parent : List ℕ) (below : List Bool) (written : List ℕ) (e link : ℕ) (r : Bool) (below' : List Bool)
+    (written' : List ℕ) : Type 0 where
+  pub answer : r ≡ odd_below below link
   pub bytes_are : written' ≡ marked (odd_below below link) e written
   pub same_length : length below' ≡ length below
   pub each : (z : ℕ) → at parent z ≢ z

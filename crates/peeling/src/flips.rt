@@ -29,10 +29,9 @@ pub fn flip_ends(lit: &[u8], tree: &[u16; VERTICES], odd: &mut [bool; VERTICES])
     requires { AllFlippable (length lit.now) (parents_of tree.now) odd.old }
     ensures { AllFlipped (parents_of tree.now) (length lit.now) (ones lit.now) odd.old odd.new }
 {
-    for v in 0..lit.len() {
-        if lit[v] == 1 {
-            let number = v as u16;
-            flip(tree, odd, Vertex(number));
+    for (v, byte) in lit.iter().enumerate() {
+        if *byte == 1 {
+            flip(tree, odd, Vertex(v as u16));
         }
     }
 }

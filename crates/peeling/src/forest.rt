@@ -8,59 +8,50 @@ use model::limits::VERTICES;
 use model::numbers::{Edge, HalfEdges};
 use union_find::Joined;
 
-// A full edge is taken, if its ends are in two trees: it is next in the list, after `count` others, with its link, the root that it hangs.
-// The answer is how many edges are in the list then.
-fn take(
-    ends: &[u16],
-    tree: &mut [u16; VERTICES],
-    taken: &mut [u16; VERTICES],
-    links: &mut [u16; VERTICES],
-    count: usize,
-    edge: Edge,
-) -> usize
-    requires { Takeable ends.now tree.old count edge.0 }
-    ensures { Takes ends.now tree.old taken.old links.old count edge.0 result
-        tree.new taken.new links.new }
-{
-    let a = first_end(ends, edge);
-    let b = second_end(ends, edge);
-    let next = count + 1;
-    match union_find::join(tree, a, b) {
-        Joined::Hung { child, root: _ } => {
-            taken[count] = edge.0;
-            links[count] = child.0;
-            next
+// The list of the forest's edges: the first `count` of `taken` are their numbers, those of `links` the root that each hung.
+#[derive(Drop)]
+pub struct Listed {
+    pub taken: [u16; VERTICES],
+    pub links: [u16; VERTICES],
+    pub count: usize,
+}
+
+impl Listed {
+    // A full edge is taken, if its ends are in two trees: it is next in the list, with its link, the root that it hangs.
+    fn take(&mut self, ends: &[u16], tree: &mut [u16; VERTICES], edge: Edge)
+        requires { Takeable ends.now tree.old self.old.count edge.0 }
+        ensures { Takes ends.now tree.old self.old.taken self.old.links self.old.count edge.0 self.new.count
+            tree.new self.new.taken self.new.links }
+    {
+        let a = first_end(ends, edge);
+        let b = second_end(ends, edge);
+        match union_find::join(tree, a, b) {
+            Joined::Hung { child, root: _ } => {
+                self.taken[self.count] = edge.0;
+                self.links[self.count] = child.0;
+                self.count += 1;
+            }
+            Joined::Already(_) => {}
         }
-        Joined::Already(_) => count,
     }
 }
 
-// The forest of all full edges, taken in rising number: its trees, and the list of its edges with the link of each. The answer is how many
-// they are.
+// The forest of all full edges, taken in rising number: its trees, and the list of its edges with the link of each.
 pub fn span(
     vertices: usize,
     ends: &[u16],
     support: &[u8],
     tree: &mut [u16; VERTICES],
-    taken: &mut [u16; VERTICES],
-    links: &mut [u16; VERTICES],
-) -> usize
-    requires { SpanRoom vertices ends.now support.now tree.old taken.old links.old }
-    ensures { Spans vertices ends.now support.now result (parents_of tree.new) taken.new links.new }
+    listed: &mut Listed,
+)
+    requires { SpanRoom vertices ends.now support.now tree.old listed.old.taken listed.old.links }
+    ensures { Spans vertices ends.now support.now listed.new.count (parents_of tree.new) listed.new.taken listed.new.links }
 {
     union_find::alone(vertices, tree);
-    let edges = support.len();
-    let mut count = 0;
-    // `left` edges are still to be looked at, in rising number.
-    let mut left = edges;
-    while 0 < left {
-        let e = edges - left;
-        let half = HalfEdges(support[e]);
-        if half.is_full() {
-            let number = e as u16;
-            count = take(ends, tree, taken, links, count, Edge(number));
+    listed.count = 0;
+    for (e, byte) in support.iter().enumerate() {
+        if HalfEdges(*byte).is_full() {
+            listed.take(ends, tree, Edge(e as u16));
         }
-        left -= 1;
     }
-    count
 }

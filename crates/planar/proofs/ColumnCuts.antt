@@ -10,12 +10,13 @@ use native.Mathlib.Omega.{arith}
 use borrow.Author.Tests.{lt-ltb, le-ltb, le-leb, lt-leb, eqb-true, eq-eqb, ne_eqb}
 use lib.Arith.{digits_mod}
 use lib.Dec.{eqb, leb}
+use Rattle.std.proofs.lemmas.Bool.{true_from_ne_false}
 use Rattle.model.specs.Sums.{Set, ◌⊕◌, odd_up_to}
 use Rattle.model.specs.Board.{edges, first_end, second_end, is_open}
 use Rattle.model.specs.Syndrome.{odd_end}
 use Rattle.model.specs.Winding.{crosses_a, crosses_b, winds}
 use Rattle.model.specs.Planar.{least_planar, planar_edges, planar_at, along_row, planar_from, planar_to, planar}
-use Rattle.model.proofs.Xor.{xor_self, not_false_true}
+use Rattle.model.proofs.Xor.{xor_self}
 use Rattle.model.proofs.SumLaws.{Some, odd_cong, odd_none}
 use Rattle.theory.proofs.OddMembers.{odd_found}
 use Rattle.theory.proofs.Syndromes.{cut, shut_syndrome}
@@ -137,7 +138,7 @@ module _ (L : ℕ) (least : 2 ≤ L) (most : L ≤ 31) where
   -- a winding set has an odd number of edges in the first cut ..
   first_odd_lem : (D : Set) → winds (planar L) D ≡ true → cut_odd L D 0 ≡ true
   unfolding crosses_oddly
-  first_odd_lem D w = not_false_true _ (λ even. false≢true (sym (unmarked_unwound (planar L) D (unmarked even)) ∙ w))
+  first_odd_lem D w = true_from_ne_false _ (λ even. false≢true (sym (unmarked_unwound (planar L) D (unmarked even)) ∙ w))
     where
       unmarked : cut_odd L D 0 ≡ false → Unmarked (planar L) D
       unmarked even line_a =

@@ -1,13 +1,11 @@
--- The planar board edge by edge, first the L² edges along rows, then those down inner columns; and which vertices are open.
+-- The planar board edge by edge, first the L² edges along rows, then those down inner columns.
 -- Assumes nothing.
 use Prim.Native.Nat.{ℕ, ◌+◌, ◌*◌, ◌-◌, ◌/◌, ◌%◌, ◌≤◌, ◌<◌}
 use mathlib.Core.Path.{◌≡◌}
-use mathlib.Core.Bool.{and-false, or-true}
-use mathlib.Core.Logic.{◌≢◌}
 use native.Mathlib.Decide.{dec_lt}
 use native.Mathlib.Omega.{arith}
 use borrow.Author.Tests.{lt-ltb, le-ltb, eq-eqb, ne_eqb}
-use Rattle.model.specs.Planar.{least_planar, planar_vertices, planar_edges, planar_at, planar_from, planar_to, planar_mark, planar_open, planar_end}
+use Rattle.model.specs.Planar.{least_planar, planar_vertices, planar_edges, planar_at, planar_from, planar_to, planar_mark, planar_end}
 use Rattle.planar.proofs.Numbering.{right_less, below_less, row_less, column_less}
 
 -- the entries of both ends
@@ -57,22 +55,6 @@ to_less L e least h =
 pub from_less : (L e : ℕ) → least_planar ≤ L → e < planar_edges L → planar_from L e < planar_vertices L
 from_less L e least h = omega (arith, to_less L e least h)
 
--- an edge is marked where it lies along a row and begins in column 0
-pub marked : (L e : ℕ) → e < L * L → e % L ≡ 0 → planar_mark L e ≡ 1
-marked L e along first = rw (lt-ltb e (L * L) along, eq-eqb (e % L) 0 first)
-
-pub later_unmarked : (L e : ℕ) → e % L ≢ 0 → planar_mark L e ≡ 0
-later_unmarked L e other = rw (ne_eqb (e % L) 0 other, and-false)
-
+-- no edge down a column is marked
 pub down_unmarked : (L e : ℕ) → L * L ≤ e → planar_mark L e ≡ 0
 down_unmarked L e down = rw (le-ltb e (L * L) down)
-
--- a vertex is open in column 0 and in column L
-pub open_first : (L v : ℕ) → v % (L + 1) ≡ 0 → planar_open L v ≡ 1
-open_first L v first = rw (eq-eqb (v % (L + 1)) 0 first)
-
-pub open_last : (L v : ℕ) → v % (L + 1) ≡ L → planar_open L v ≡ 1
-open_last L v last = rw (eq-eqb (v % (L + 1)) L last, or-true)
-
-pub inner_shut : (L v : ℕ) → v % (L + 1) ≢ 0 → v % (L + 1) ≢ L → planar_open L v ≡ 0
-inner_shut L v first last = rw (ne_eqb (v % (L + 1)) 0 first, ne_eqb (v % (L + 1)) L last)

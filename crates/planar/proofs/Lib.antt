@@ -1,7 +1,5 @@
 pub mod Numbering
-pub mod SideRefused
 pub mod Edges
-pub mod Writing
 pub mod PlanarRows
 pub mod PlanarValid
 pub mod ColumnCuts

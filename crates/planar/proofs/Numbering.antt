@@ -5,12 +5,8 @@ use native.Mathlib.Omega.{arith}
 use lib.Arith.{digits_lt}
 use Rattle.model.specs.Board.{vertex_limit, edge_limit}
 use Rattle.model.specs.Planar.{largest_planar, planar_vertices, planar_at, planar_edges}
-use Rattle.planar.specs.Sides.{SideWithin}
 
 -- a board that is built has no more vertices and edges than a board may have
-pub square_limit : (L : ℕ) → L ≤ largest_planar → L * L ≤ vertex_limit
-square_limit L h = omega (arith, mul-le-mul h h)
-
 pub vertices_limit : (L : ℕ) → L ≤ largest_planar → planar_vertices L ≤ vertex_limit
 vertices_limit L h =
     let more : L + 1 ≤ 32 = omega arith in omega (arith, mul-le-mul h more)
@@ -23,9 +19,6 @@ edges_limit L h =
 pub at_less : (L r c : ℕ) → r < L → c ≤ L → planar_at L r c < planar_vertices L
 at_less L r c in_row in_column =
     let less : c < L + 1 = omega arith in digits_lt in_row less
-
-pub at_limit : (L r c : ℕ) → SideWithin L → r < L → c ≤ L → planar_at L r c < vertex_limit
-at_limit L r c w in_row in_column = omega (arith, at_less L r c in_row in_column, vertices_limit L w.most)
 
 pub right_less : (L r c : ℕ) → r < L → c < L → planar_at L r c + 1 < planar_vertices L
 right_less L r c in_row in_column = omega (arith, at_less L r (c + 1) in_row (omega arith))

@@ -11,8 +11,7 @@ fn vertex_at(side: usize, row: usize, column: usize) -> Vertex
     ensures { result.0 ≡ planar_at side row column }
 {
     let start = row * (side + 1);
-    let number = (start + column) as u16;
-    Vertex(number)
+    Vertex((start + column) as u16)
 }
 
 // The smaller end of an edge: of one along a row the left, of one down a column the upper.
@@ -49,11 +48,7 @@ pub(crate) fn mark_of(side: usize, edge: Edge) -> u8
 {
     let e = edge.0 as usize;
     let along = side * side;
-    let right = e % side + 1;
-    if e < along && right == 1 {
-        return 1;
-    }
-    0
+    u8::from(e < along && e % side == 0)
 }
 
 // The open byte of a vertex: 1 in the first and in the last column.
@@ -62,8 +57,5 @@ pub(crate) fn open_byte(side: usize, v: Vertex) -> u8
     ensures { result ≡ planar_open side v.0 }
 {
     let column = v.0 as usize % (side + 1);
-    if column == 0 || column == side {
-        return 1;
-    }
-    0
+    u8::from(column == 0 || column == side)
 }

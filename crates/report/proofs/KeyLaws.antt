@@ -5,10 +5,8 @@ use mathlib.Core.List.{List, ◌++◌}
 use mathlib.Core.Option.{Option, none, some}
 use native.Mathlib.Omega.{arith}
 use lib.ListN.{length, length-append}
+use Rattle.model.specs.declared.answers.Key.{Key}
 use Rattle.model.specs.declared.refusal.Refusal.{Refusal}
-use Rattle.model.specs.declared.answers.Decoded.{Decoded}
-use Rattle.model.specs.declared.answers.Decoded.TheVariants.{Key, Refused}
-use Rattle.model.specs.declared.answers.Distance.{Distance}
 use Rattle.model.specs.Sums.{bit, ones, bytes}
 use Rattle.model.specs.Board.{Board, Sheet, Valid, edges}
 use Rattle.model.specs.Winding.{size}
@@ -16,7 +14,7 @@ use Rattle.model.specs.Growth.{weighted}
 use Rattle.model.specs.Decoding.{smallest_odd, growths, corrected}
 use Rattle.model.specs.Distance.{fewest}
 use Rattle.model.specs.Refusals.{none_at}
-use Rattle.model.specs.Outcomes.{key_or_none, key_or, Decodes, distance_of, distance_answer}
+use Rattle.model.specs.Outcomes.{key_or_none, Decodes, distance_of, distance_answer}
 use Rattle.model.specs.Report.{letter_g, letter_c, edge_lines, distance_line, refusal_line, key_report, sheet_report}
 use Rattle.model.proofs.Contradiction.{zero_one}
 use Rattle.model.proofs.ListLaws.{length_values, ones_bytes}
@@ -28,6 +26,8 @@ use Rattle.text.specs.Printing.{number_bytes, listed_bytes}
 use Rattle.text.proofs.PrintLaws.{listed_short}
 use Rattle.report.specs.ReportLines.{fewest_in, key_lines, Keyed, Decodable}
 use Rattle.report.proofs.ReportLineLaws.{line_bytes, edges_listed, number_short, distance_short}
+use Rattle.model.specs.Answers.{Decoded, Distance, key_with}
+use Rattle.std.specs.Prelude.{Ok, Err}
 
 -- the distance of a valid board is no refusal
 no_refusal : (B : Board) (shown : List ℕ) → Valid B → length shown ≡ edges B → distance_answer B shown ≡ distance_of (fewest B)
@@ -86,51 +86,43 @@ key_lines_lem X =
     m : ℕ
     m = edges X.board
 
+-- the answer decides the key
+same_key : {x y : Key} → key_with x.growths x.edges ≡ key_with y.growths y.edges → x ≡ y
+same_key p = cc
+
 -- What a key comes to: so many growths at most, and the sheet's report.
 pub record KeyGiven (X : Sheet) (g : ℕ) (correction' : List ℕ) : Type 0 where
   pub limit : g ≤ 2 * edges X.board
   pub report_is : key_lines X.board g correction' ≡ sheet_report X
 
-module _
-    {X : Sheet}
-    {support correction support' correction' out : List ℕ}
-    {r : Decoded}
-    (lent : Decodable X support correction out)
-    (d : Decodes X support correction r support' correction')
-  where
-    result : r ≡ key_or_none X
-    result =
-        d.result
-        ∙ passed_answer X support correction
-        (passes_decode X support correction
-        (record { sheet = lent.sheet; support_long = lent.support_long; correction_long = lent.correction_long }))
+module _ {X : Sheet} {support correction support' correction' out : List ℕ} (lent : Decodable X support correction out) where
+  result : {r : Decoded} → Decodes X support correction r support' correction' → r ≡ key_or_none X
+  result d =
+      d.result
+      ∙ passed_answer X support correction
+      (passes_decode X support correction
+      (record { sheet = lent.sheet; support_long = lent.support_long; correction_long = lent.correction_long }))
 
-    -- decoding refuses: the line of number 10
-    pub refused_report : {n : Refusal} → r ≡ Refused n → refusal_line n ≡ sheet_report X
-    refused_report {n} refused = go (smallest_odd X.board (ones X.syndrome)) refl
-      where
-        go : (o : Option ℕ) → smallest_odd X.board (ones X.syndrome) ≡ o → refusal_line n ≡ sheet_report X
-        go (some v) p =
-            let q : Refused n ≡ Refused (none_at v) = sym refused ∙ result ∙ none_answer X v p in
-            let same : n ≡ none_at v = cc in
-            ap refusal_line same ∙ sym (odd_report X v p)
-        go none p =
-            let q : Refused n ≡ Key (growths X) (size X.board (corrected X)) = sym refused ∙ result ∙ key_answer X p in
-            zero_one (cc)
+  -- decoding refuses: the line of number 10
+  pub refused_report : {n : Refusal} → Decodes X support correction (Err n) support' correction' → refusal_line n ≡ sheet_report X
+  refused_report {n} d = go (smallest_odd X.board (ones X.syndrome)) refl
+    where
+      go : (o : Option ℕ) → smallest_odd X.board (ones X.syndrome) ≡ o → refusal_line n ≡ sheet_report X
+      go (some v) p =
+          let q : Err n ≡ Err (none_at v) = result d ∙ none_answer X v p in
+          let same : n ≡ none_at v = cc in
+          ap refusal_line same ∙ sym (odd_report X v p)
+      go none p = let q : Err n ≡ key_with (growths X) (size X.board (corrected X)) = result d ∙ key_answer X p in zero_one (cc)
 
-    -- decoding gives a key, and has written its correction
-    pub key_given : {g k : ℕ} → r ≡ Key g k → KeyGiven X g correction'
-    key_given {g} {k} key = go (smallest_odd X.board (ones X.syndrome)) refl
-      where
-        go : (o : Option ℕ) → smallest_odd X.board (ones X.syndrome) ≡ o → KeyGiven X g correction'
-        go (some v) p =
-            let q : Key g k ≡ Refused (none_at v) = sym key ∙ result ∙ none_answer X v p in
-            zero_one (cc)
-        go none p =
-            let q : Key g k ≡ Key (growths X) (size X.board (corrected X)) = sym key ∙ result ∙ key_answer X p in
-            let same : g ≡ growths X = cc in
-            let is = d.correction_bytes ∙ ap (λ x. key_or x (bytes (edges X.board) (corrected X)) correction) key in
-            record {
-              limit = rw same (count_limit weighted X);
-              report_is = ap₂ (key_lines X.board) same is ∙ key_lines_lem X ∙ sym (even_report X p);
-            }
+  -- decoding gives a key, and has written its correction
+  pub key_given : {k : Key} → Decodes X support correction (Ok k) support' correction' → KeyGiven X k.growths correction'
+  key_given {k} d = go (smallest_odd X.board (ones X.syndrome)) refl
+    where
+      go : (o : Option ℕ) → smallest_odd X.board (ones X.syndrome) ≡ o → KeyGiven X k.growths correction'
+      go (some v) p = let q : Ok k ≡ Err (none_at v) = result d ∙ none_answer X v p in zero_one (cc)
+      go none p =
+          let same : k.growths ≡ growths X = ap (λ x. x.growths) (same_key (result d ∙ key_answer X p)) in
+          record {
+            limit = rw same (count_limit weighted X);
+            report_is = ap₂ (key_lines X.board) same d.correction_bytes ∙ key_lines_lem X ∙ sym (even_report X p);
+          }

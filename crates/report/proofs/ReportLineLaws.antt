@@ -1,5 +1,5 @@
 -- The lines of a report as the bytes that are put, and how many they are at most. Assumes nothing.
-use Prim.Native.Nat.{ℕ, zero, suc, ◌≤◌}
+use Prim.Native.Nat.{ℕ, zero, suc, ◌^◌, ◌≤◌, ◌<◌}
 use mathlib.Core.Path.{◌≡◌, refl, sym, ap, ap₂, ◌∙◌}
 use mathlib.Core.Bool.{Bool, true, false, cond}
 use mathlib.Core.List.{List, [], ◌∷◌, ◌++◌, append_assoc, append-nil}
@@ -54,6 +54,13 @@ edges_listed D (suc k) = edges_append (members k D) (cond (D k) (k ∷ []) []) �
     go : (t : Bool) → edge_lines (cond t (k ∷ []) []) ≡ place_bytes letter_c k t
     go true = append-nil (report_line letter_c (k ∷ [])) ∙ line_bytes letter_c k
     go false = refl
+
+-- a refusal's number has at most three digits, and its place at most twenty
+pub number_digits : (n : ℕ) → n < 2 ^ 8 → length (decimal n) ≤ 3
+number_digits n h = (digits 2).few n (omega arith)
+
+pub place_digits : (n : ℕ) → n < 2 ^ 64 → length (decimal n) ≤ 20
+place_digits n h = (digits 19).few n (omega arith)
 
 -- how long a refusal's line is
 pub refusal_short : (n : Refusal) → number_of n ≤ nines 2 → place_of n ≤ nines 19 → length (refusal_line n) ≤ 27

@@ -1,20 +1,19 @@
 -- What the functions of a report put, and what they are lent. No part of what a reader must believe: inner contracts name it.
 -- Assumes nothing.
-use Rattle.std.specs.Prelude.{ℕ, ◌+◌, ◌*◌, ◌≤◌, ◌≡◌, List, ◌++◌, length}
+use Rattle.std.specs.Prelude.{ℕ, ◌+◌, ◌*◌, ◌≤◌, ◌≡◌, List, ◌++◌, length, Ok, Err, Some, None}
 use Rattle.std.proofs.Math.Option.{Option, none, some}
-use Rattle.model.specs.declared.answers.Distance.{Distance}
-use Rattle.model.specs.declared.answers.Distance.TheVariants.{Fewest, Nothing, Refused}
 use Rattle.model.specs.Sums.{ones}
 use Rattle.model.specs.Board.{Board, Sheet, Valid, ValidSheet, edges, edge_limit}
 use Rattle.model.specs.Distance.{fewest}
 use Rattle.model.specs.Report.{letter_g, letter_c, distance_line}
 use Rattle.text.specs.Printing.{number_bytes, listed_bytes}
+use Rattle.model.specs.Answers.{Distance}
 
 -- the distance in an answer; on a valid board the answer is no refusal
 abbrev pub fewest_in : Distance → Option ℕ
-fewest_in (Fewest d) = some d
-fewest_in Nothing = none
-fewest_in (Refused n) = none
+fewest_in (Ok (Some d)) = some d
+fewest_in (Ok None) = none
+fewest_in (Err n) = none
 
 -- room for the longest report
 abbrev pub longest : ℕ

@@ -8,7 +8,8 @@ ghost use Rattle.model.specs.Report.{report_of, InFront};
 
 use crate::key::put_sheet;
 use crate::lines::put_refusal;
-use model::answers::Reading;
+use model::answers::Counts;
+use model::lent::{Board, Sheet};
 use model::limits::{EDGES, ENDS, VERTICES};
 use text::reading::read;
 
@@ -16,6 +17,7 @@ use text::reading::read;
 pub const LONGEST: usize = 7 * (EDGES + 2);
 
 // Puts the report of a text in front of the array, and answers with its length.
+#[tactic(auto, using(crate::proofs::Readings::counts_read))]
 pub fn report(text: &[u8], out: &mut [u8; LONGEST]) -> usize
     ensures { InFront (report_of text.now) out.old result out.new }
 {
@@ -32,15 +34,20 @@ pub fn report(text: &[u8], out: &mut [u8; LONGEST]) -> usize
         &mut syndrome,
         &mut loss,
     ) {
-        Reading::Refused(n) => put_refusal(out, n),
-        Reading::Counts { vertices, edges } => put_sheet(
-            vertices,
-            &ends[..2 * edges],
-            &marks[..edges],
-            &opened[..vertices],
-            &syndrome[..vertices],
-            &loss[..edges],
-            out,
-        ),
+        Ok(Counts { vertices, edges }) => {
+            let board = Board {
+                vertices,
+                ends: &ends[..2 * edges],
+                marks: &marks[..edges],
+                opened: &opened[..vertices],
+            };
+            let sheet = Sheet {
+                board,
+                syndrome: &syndrome[..vertices],
+                loss: &loss[..edges],
+            };
+            put_sheet(sheet, out)
+        }
+        Err(refusal) => put_refusal(out, refusal),
     }
 }

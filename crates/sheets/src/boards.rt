@@ -5,6 +5,11 @@ pub(crate) const RING: [u16; 8] = [0, 1, 1, 2, 2, 3, 3, 0];
 
 pub(crate) const RING_MARKS: [u8; 4] = [0, 0, 0, 1];
 
+// The syndrome and the losses of m1, which is on it.
+pub(crate) const LIT: [u8; 4] = [1, 0, 0, 1];
+
+pub(crate) const KEPT: [u8; 4] = [0, 0, 0, 0];
+
 // P, the path of four vertices.
 pub(crate) const PATH: [u16; 6] = [0, 1, 1, 2, 2, 3];
 

@@ -1,5 +1,5 @@
 // The parts of a printed line. Each only writes to standard output, of which no contract can speak.
-use model::refusal::{Refusal, number, place};
+use model::refusal::Refusal;
 use std::io;
 
 pub(crate) fn text(rt: &impl Print, bytes: &[u8]) -> io::Result<()> {
@@ -22,10 +22,8 @@ fn digit(rt: &impl Print, byte: u8) -> io::Result<()> {
 
 // Each byte as a number, one after the other.
 pub(crate) fn bytes(rt: &impl Print, all: &[u8]) -> io::Result<()> {
-    let mut i = 0;
-    while i < all.len() {
-        digit(rt, all[i])?;
-        i += 1;
+    for byte in all {
+        digit(rt, *byte)?;
     }
     Ok(())
 }
@@ -33,7 +31,7 @@ pub(crate) fn bytes(rt: &impl Print, all: &[u8]) -> io::Result<()> {
 // A refusal: its number and its place.
 pub(crate) fn refused(rt: &impl Print, refusal: Refusal) -> io::Result<()> {
     text(rt, b"number ")?;
-    digit(rt, number(refusal))?;
+    digit(rt, refusal.number())?;
     text(rt, b", place ")?;
-    count(rt, place(refusal))
+    count(rt, refusal.place())
 }

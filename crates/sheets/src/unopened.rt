@@ -8,8 +8,5 @@ pub(crate) const MOST: usize = 1025;
 pub(crate) fn count(vertices: usize) -> usize
     ensures { result ≤ 1025 }
 {
-    if vertices < MOST {
-        return vertices;
-    }
-    MOST
+    vertices.min(MOST)
 }

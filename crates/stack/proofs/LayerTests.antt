@@ -5,7 +5,7 @@ use mathlib.Core.Path.{◌≡◌, ◌∙◌}
 use mathlib.Core.Bool.{◌&&◌}
 use mathlib.Core.List.{[], ◌∷◌}
 use mathlib.Core.Option.{none, some}
-use native.Mathlib.Nat.{div-lt_iff_lt-mul, le-div_iff_mul-le}
+use native.Mathlib.Nat.{div-lt_iff_lt-mul}
 use borrow.Author.Tests.{le-leb, lt-leb, leb-true}
 use lib.Dec.{leb}
 use Rattle.model.specs.declared.refusal.Refusal.TheVariants.{RoundCount}
@@ -29,14 +29,6 @@ module _ (L R : ℕ) where
   too_many_rounds w one h =
       within_passes L (rounds_rule L R ∷ []) w
       ∙ rw (le-leb 1 R one, lt-leb (stack_vertices L R) vertex_limit ((div-lt_iff_lt-mul (some_cell L w)).0 h))
-
-  pub rounds_fit : SideWithin L → R ≤ vertex_limit / layer_vertices L → stack_vertices L R ≤ vertex_limit
-  rounds_fit w h = (le-div_iff_mul-le (some_cell L w)).0 h
-
-  pub layers_pass : StackWithin L R → refusal_of (layer_rules L R) ≡ none
-  layers_pass w =
-      within_passes L (rounds_rule L R ∷ []) w.side
-      ∙ rw (le-leb 1 R w.some_round, le-leb (stack_vertices L R) vertex_limit w.vertices_limited)
 
   pub passed_layers : refusal_of (layer_rules L R) ≡ none → StackWithin L R
   passed_layers p =

@@ -3,8 +3,6 @@ pub mod LayerTests
 pub mod StackTests
 pub mod StackPasses
 pub mod StackEdges
-pub mod EdgeMarks
-pub mod Neighbours
 pub mod Writing
 pub mod Changes
 pub mod StackRows

@@ -3,10 +3,9 @@ use Prim.Native.Nat.{ℕ, ◌+◌, ◌*◌, ◌-◌, ◌≤◌}
 use mathlib.Core.Path.{◌≡◌}
 use native.Mathlib.Nat.{mul-le-mul_right, mul_left_comm, add-mul, one-le-mul}
 use native.Mathlib.Omega.{arith}
-use Rattle.model.specs.Board.{vertex_limit, edge_limit}
+use Rattle.model.specs.Board.{edge_limit}
 use Rattle.model.specs.Stack.{layer_vertices, stack_vertices, flat_edges, stack_edges}
 use Rattle.torus.specs.Sides.{SideWithin}
-use Rattle.torus.proofs.Numbering.{square_limit}
 use Rattle.stack.specs.Layers.{StackWithin}
 
 -- every layer has a vertex, and twice as many edges as vertices
@@ -15,9 +14,6 @@ some_cell L w = one-le-mul w.least w.least
 
 pub some_vertex : (L R : ℕ) → StackWithin L R → 1 ≤ layer_vertices L
 some_vertex L R w = some_cell L w.side
-
-pub layer_limit : (L R : ℕ) → StackWithin L R → layer_vertices L ≤ vertex_limit
-layer_limit L R w = square_limit L w.side.most
 
 pub flat_count : (L R : ℕ) → flat_edges L R ≡ 2 * stack_vertices L R
 flat_count L R = mul_left_comm R 2 (L * L)

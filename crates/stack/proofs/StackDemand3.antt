@@ -9,10 +9,8 @@ use mathlib.Core.Logic.{◌↔◌}
 use mathlib.Core.Option.{Option, none, some}
 use native.Mathlib.Omega.{arith}
 use lib.ListN.{length}
-use Rattle.model.specs.declared.answers.Built.{Built}
-use Rattle.model.specs.declared.answers.Built.TheVariants.{Vertices}
-use Rattle.model.specs.declared.answers.Decoded.{Decoded}
-use Rattle.model.specs.declared.answers.Decoded.TheVariants.{Refused}
+use Rattle.std.specs.Prelude.{Ok, Err}
+use Rattle.model.specs.Answers.{Built, Decoded}
 use Rattle.model.specs.Sums.{ones}
 use Rattle.model.specs.Board.{Sheet, ValidBytes, ValidSheet, without_open, sheet_of}
 use Rattle.model.specs.Syndrome.{HasSyndrome}
@@ -39,7 +37,7 @@ pub stack_soundly : (L R : ℕ) (readings ends marks syndrome : List ℕ) (r : B
     → BuildsStack L R readings ends marks syndrome r ends' marks' syndrome' → StacksSoundly L R readings r ends' marks' syndrome'
 stack_soundly L R readings ends marks syndrome r ends' marks' syndrome' b = record { events_lit = lit }
   where
-    lit : (n : ℕ) → r ≡ Vertices n → (h : History L R) → ReadingsOf L R h readings
+    lit : (n : ℕ) → r ≡ Ok n → (h : History L R) → ReadingsOf L R h readings
         → HasSyndrome (without_open n ends' marks') (events L R h) (ones syndrome')
     lit n is h its =
         let w = stack_written L R readings ends marks syndrome r ends' marks' syndrome' b n is in
@@ -101,7 +99,7 @@ module _ (L R : ℕ) (w : StackWithin L R) (readings loss : List ℕ) (lost : Va
           go : (o : Option ℕ) → smallest_odd (stack L R) (ones (stack_syndrome L R readings)) ≡ o
               → KeyFor (stack L R) (ones (stack_syndrome L R readings)) (ones loss) d (ones correction') (events L R h)
           go (some v) p =
-              let no : AnswersNone Refused d = record { vertex = record { 0 = v }; answer = answered ∙ none_answer X v p } in
+              let no : AnswersNone Err d = record { vertex = record { 0 = v }; answer = answered ∙ none_answer X v p } in
               absurd (owed.none_exactly.0 no (events L R h) has)
           go none p =
               let key = answered ∙ key_answer X p in
@@ -114,7 +112,7 @@ module _ (L R : ℕ) (w : StackWithin L R) (readings loss : List ℕ) (lost : Va
               }
 
       -- "no correction" exactly where no history has them
-      exactly : AnswersNone Refused d ↔ ((h : History L R) → ReadingsOf L R h readings → ⊥)
+      exactly : AnswersNone Err d ↔ ((h : History L R) → ReadingsOf L R h readings → ⊥)
       exactly = (
         λ none h its. owed.none_exactly.0 none (events L R h) (events_syndrome L R w h readings its),
         λ never. owed.none_exactly.1 (λ E has. never (history_of L R E) (syndrome_readings L R w E readings has)),
@@ -128,7 +126,7 @@ module _
     (ends' marks' syndrome' : List ℕ)
     (built : BuildsStack L R readings ends marks syndrome r ends' marks' syndrome')
     (n : ℕ)
-    (is : r ≡ Vertices n)
+    (is : r ≡ Ok n)
     (loss support correction : List ℕ)
     (lost : ValidBytes (stack_edges L R) loss)
     (support_long : length support ≡ stack_edges L R)
@@ -153,7 +151,7 @@ module _
         on_stack h its)
 
     -- Number 10 is answered exactly where no history has these readings.
-    pub none_exactly : AnswersNone Refused d ↔ ((h : History L R) → ReadingsOf L R h readings → ⊥)
+    pub none_exactly : AnswersNone Err d ↔ ((h : History L R) → ReadingsOf L R h readings → ⊥)
     none_exactly =
         exactly L R written.lent.within readings loss lost support correction support_long correction_long d support' correction'
         on_stack

@@ -7,12 +7,12 @@ use mathlib.Core.Bool.{false≢true}
 use mathlib.Core.Logic.{◌↔◌}
 use mathlib.Core.Option.{Option, none, some}
 use native.Mathlib.Omega.{arith}
+use Rattle.std.proofs.lemmas.Bool.{false_from_ne_true}
 use Rattle.model.specs.Winding.{winds}
 use Rattle.model.specs.Distance.{fewest}
 use Rattle.model.specs.Demand3.{EveryLoopAbove}
 use Rattle.model.specs.Torus.{torus}
 use Rattle.model.specs.Stack.{stack}
-use Rattle.model.proofs.Xor.{not_true_false}
 use Rattle.theory.proofs.Distances.{Least, fewest_least, fewest_none, least_fewest, none_fewest}
 use Rattle.torus.proofs.TorusDistance.{torus_distance}
 use Rattle.stack.specs.Layers.{StackWithin}
@@ -49,7 +49,7 @@ stack_distance L R w = go (fewest (torus L)) refl
     go none p =
         none_fewest (stack L R)
         (λ D.
-        not_true_false (winds (stack L R) D)
+        false_from_ne_true (winds (stack L R) D)
         (λ q. false≢true (sym (fewest_none (torus L) p (shadow L R D)) ∙ shadow_winds L R w D q)))
     go (some d) p = least_fewest (stack L R) d (stack_least L R w d (fewest_least (torus L) d p))
 

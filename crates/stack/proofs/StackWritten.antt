@@ -4,8 +4,8 @@ use Prim.Native.Nat.{ℕ}
 use mathlib.Core.Path.{◌≡◌, refl, sym, ap, ap₂, ◌∙◌}
 use mathlib.Core.List.{List}
 use mathlib.Core.Option.{none, some}
-use Rattle.model.specs.declared.answers.Built.{Built}
-use Rattle.model.specs.declared.answers.Built.TheVariants.{Vertices, Refused}
+use Rattle.std.specs.Prelude.{Ok, Err}
+use Rattle.model.specs.Answers.{Built}
 use Rattle.model.specs.Board.{without_open}
 use Rattle.model.specs.Stack.{stack_vertices, stack_ends, stack_marks, stack, stack_syndrome}
 use Rattle.model.specs.Refusals.{Test, stack_refusal}
@@ -20,7 +20,7 @@ record Counts (t : Test) (n m : ℕ) : Type 0 where
   passed : t ≡ none
   count : n ≡ m
 
-counted : (t : Test) (n m : ℕ) → Vertices n ≡ answer t Refused (Vertices m) → Counts t n m
+counted : (t : Test) (n m : ℕ) → Ok n ≡ answer t Err (Ok m) → Counts t n m
 counted none n m q = record { passed = refl; count = cc }
 counted (some r) n m q = zero_one (cc)
 
@@ -30,7 +30,7 @@ pub record Written (L R : ℕ) (readings ends marks syndrome : List ℕ) (n : �
   pub bytes : syndrome' ≡ stack_syndrome L R readings
 
 pub stack_written : (L R : ℕ) (readings ends marks syndrome : List ℕ) (r : Built) (ends' marks' syndrome' : List ℕ)
-    → BuildsStack L R readings ends marks syndrome r ends' marks' syndrome' → (n : ℕ) → r ≡ Vertices n
+    → BuildsStack L R readings ends marks syndrome r ends' marks' syndrome' → (n : ℕ) → r ≡ Ok n
     → Written L R readings ends marks syndrome n ends' marks' syndrome'
 unfolding stack_answer stack
 stack_written L R readings ends marks syndrome r ends' marks' syndrome' b n is =

@@ -4,23 +4,24 @@ ghost use Rattle.model.specs.Refusals.{refusal_of, layer_rules, reading_rules, s
 ghost use Rattle.board.specs.Checks.{test_of};
 ghost use Rattle.stack.specs.Layers.{StackWithin};
 
-use board::bytes::vertex_above;
-use board::outcome::{Check, FoundVertex};
-use model::limits::{LARGEST_SIDE, LEAST_SIDE, VERTICES};
+use board::bytes::first_above;
+use model::limits::VERTICES;
+use model::numbers::Vertex;
 use model::refusal::Refusal;
+use torus::sides::is_built;
 
 // The tests 11 and 15. No product of a side and a number of rounds is made before they have passed, as it might not fit.
-fn check_layers(side: usize, rounds: usize) -> Check
+fn check_layers(side: usize, rounds: usize) -> Result<(), Refusal>
     ensures { test_of result ≡ refusal_of (layer_rules side rounds) }
 {
-    if side < LEAST_SIDE || side > LARGEST_SIDE {
-        return Check::Failed(Refusal::TorusSide(side));
+    if !is_built(side) {
+        return Err(Refusal::TorusSide(side));
     }
     let layer = side * side;
-    if rounds < 1 || rounds > VERTICES / layer {
-        return Check::Failed(Refusal::RoundCount);
+    if !(1..=VERTICES / layer).contains(&rounds) {
+        return Err(Refusal::RoundCount);
     }
-    Check::Passed
+    Ok(())
 }
 
 // The tests 3 and 7, once side and rounds are in range.
@@ -31,7 +32,7 @@ fn check_readings(
     ends: &[u16],
     marks: &[u8],
     syndrome: &[u8],
-) -> Check
+) -> Result<(), Refusal>
     requires { StackWithin side rounds }
     ensures { test_of result ≡ refusal_of
         (reading_rules side rounds readings.now ends.now marks.now syndrome.now) }
@@ -39,15 +40,17 @@ fn check_readings(
     let layer = side * side;
     let vertices = rounds * layer;
     let edges = 2 * vertices + (vertices - layer);
-    let bytes = (readings.len() == vertices) & (syndrome.len() == vertices);
-    let lists = (ends.len() == 2 * edges) & (marks.len() == edges);
-    if !(bytes & lists) {
-        return Check::Failed(Refusal::BufferLength);
+    if readings.len() != vertices
+        || syndrome.len() != vertices
+        || ends.len() != 2 * edges
+        || marks.len() != edges
+    {
+        return Err(Refusal::BufferLength);
     }
-    if let FoundVertex::At(v) = vertex_above(readings, 1) {
-        return Check::Failed(Refusal::SyndromeByte(v));
+    if let Some(v) = first_above::<Vertex>(readings, 1) {
+        return Err(Refusal::SyndromeByte(v));
     }
-    Check::Passed
+    Ok(())
 }
 
 // What the stack's builder is lent: a reading byte for each stacked vertex, and three buffers to fill.
@@ -58,11 +61,9 @@ pub(crate) fn check_stack(
     ends: &[u16],
     marks: &[u8],
     syndrome: &[u8],
-) -> Check
+) -> Result<(), Refusal>
     ensures { test_of result ≡ stack_refusal side rounds readings.now ends.now marks.now syndrome.now }
 {
-    if let Check::Failed(refusal) = check_layers(side, rounds) {
-        return Check::Failed(refusal);
-    }
+    check_layers(side, rounds)?;
     check_readings(side, rounds, readings, ends, marks, syndrome)
 }

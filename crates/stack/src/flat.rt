@@ -18,16 +18,13 @@ fn other_end(side: usize, edge: Edge) -> Vertex
     let layer = side * side;
     let first = (e / (2 * layer) * layer) as u16;
     let inner = e % (2 * layer);
-    let half = (inner / 2) as u16;
-    let v = Vertex(half);
-    if inner % 2 == 0 {
-        let right = right_of(side, v);
-        let beside = first + right.0;
-        return Vertex(beside);
-    }
-    let below = below_of(side, v);
-    let under = first + below.0;
-    Vertex(under)
+    let v = Vertex((inner / 2) as u16);
+    let other = if inner % 2 == 0 {
+        right_of(side, v)
+    } else {
+        below_of(side, v)
+    };
+    Vertex(first + other.0)
 }
 
 // Both ends of each edge of each layer in turn.
@@ -38,13 +35,10 @@ pub(crate) fn fill_flat(side: usize, rounds: usize, ends: &mut [u16])
 {
     let vertices = rounds * (side * side);
     let edges = 2 * vertices;
-    let mut e = 0;
-    while e < edges {
+    for e in 0..edges {
         let number = e as u16;
         let other = other_end(side, Edge(number));
-        let i = 2 * e;
-        ends[i] = number / 2;
-        ends[i + 1] = other.0;
-        e += 1;
+        ends[2 * e] = number / 2;
+        ends[2 * e + 1] = other.0;
     }
 }

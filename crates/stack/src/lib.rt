@@ -18,8 +18,7 @@ use crate::flat::fill_flat;
 use crate::marks::fill_marks;
 use crate::syndrome::fill_syndrome;
 use crate::upright::fill_upright;
-use board::outcome::Check;
-use model::answers::Built;
+use model::refusal::Refusal;
 
 // The stack of side L and R rounds: the vertex count, with all ends, marks and syndrome bytes filled in from a reading byte for each
 // stacked vertex; or a refusal, with nothing written.
@@ -30,15 +29,13 @@ pub fn stack(
     ends: &mut [u16],
     marks: &mut [u8],
     syndrome: &mut [u8],
-) -> Built
+) -> Result<usize, Refusal>
     ensures outcome { BuildsStack side rounds readings.now ends.old marks.old syndrome.old
         result ends.new marks.new syndrome.new }
     ensures sound { StacksSoundly side rounds readings.now result ends.new marks.new syndrome.new }
 {
-    if let Check::Failed(refusal) = check_stack(side, rounds, readings, ends, marks, syndrome) {
-        return Built::Refused(refusal);
-    }
-    Built::Vertices(fill(side, rounds, readings, ends, marks, syndrome))
+    check_stack(side, rounds, readings, ends, marks, syndrome)?;
+    Ok(fill(side, rounds, readings, ends, marks, syndrome))
 }
 
 // Fills the three buffers, once all tests have passed, and says how many vertices there are.

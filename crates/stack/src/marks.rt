@@ -18,12 +18,12 @@ fn mark_of(side: usize, rounds: usize, edge: Edge) -> u8
         return 0;
     }
     let inner = e % (2 * layer);
-    let half = (inner / 2) as u16;
-    let v = Vertex(half);
+    let v = Vertex((inner / 2) as u16);
     if inner % 2 == 0 {
-        return right_mark(side, v);
+        right_mark(side, v)
+    } else {
+        below_mark(side, v)
     }
-    below_mark(side, v)
 }
 
 // The marks of all edges in turn.
@@ -31,10 +31,7 @@ pub(crate) fn fill_marks(side: usize, rounds: usize, marks: &mut [u8])
     requires { StackWithin side rounds × (length marks.old ≡ stack_edges side rounds) }
     ensures { marks.new ≡ stack_marks side rounds }
 {
-    let mut e = 0;
-    while e < marks.len() {
-        let number = e as u16;
-        marks[e] = mark_of(side, rounds, Edge(number));
-        e += 1;
+    for (e, mark) in marks.iter_mut().enumerate() {
+        *mark = mark_of(side, rounds, Edge(e as u16));
     }
 }

@@ -28,10 +28,7 @@ pub(crate) fn fill_syndrome(side: usize, rounds: usize, readings: &[u8], syndrom
     ensures { syndrome.new ≡ stack_syndrome side rounds readings.now }
 {
     let vertices = rounds * (side * side);
-    let mut u = 0;
-    while u < vertices {
-        let number = u as u16;
-        syndrome[u] = changed(side, readings, Vertex(number));
-        u += 1;
+    for u in 0..vertices {
+        syndrome[u] = changed(side, readings, Vertex(u as u16));
     }
 }

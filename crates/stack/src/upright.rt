@@ -13,13 +13,11 @@ pub(crate) fn fill_upright(side: usize, rounds: usize, ends: &mut [u16])
     let layer = side * side;
     let vertices = rounds * layer;
     let lower_vertices = vertices - layer;
-    let mut u = 0;
-    while u < lower_vertices {
+    for u in 0..lower_vertices {
         let lower = u as u16;
         let upper = (u + layer) as u16;
         let i = 2 * (2 * vertices + u);
         ends[i] = lower;
         ends[i + 1] = upper;
-        u += 1;
     }
 }

@@ -3,17 +3,7 @@
 use Prim.Native.Nat.{ℕ, ◌^◌, ◌<◌}
 use mathlib.Core.Path.{◌≡◌, sym, ap, ◌∙◌, subst}
 use mathlib.Core.List.{List}
-use Rattle.model.specs.declared.answers.Decoded.{Decoded}
-use Rattle.model.specs.declared.answers.RoundsDecoded.{RoundsDecoded}
 use Rattle.model.specs.declared.answers.Verdict.{Verdict}
-use Rattle.model.specs.declared.answers.Distance.{Distance}
-use Rattle.model.specs.declared.answers.Trap.{Trap}
-use Rattle.model.specs.declared.answers.Built.{Built}
-use Rattle.model.specs.declared.answers.Reading.{Reading}
-use Rattle.model.specs.declared.answers.Written.{Written}
-use Rattle.model.specs.declared.answers.Packed.{Packed}
-use Rattle.model.specs.declared.answers.Lit.{Lit}
-use Rattle.model.specs.declared.answers.Game.{Game}
 use Rattle.model.specs.Board.{Board, Sheet}
 use Rattle.model.specs.Outcomes.{decode_answer, Decodes, DecodesSoundly, verdict_answer, Judges, JudgesSoundly}
 use Rattle.model.specs.Outcomes.{distance_answer, Measures, torus_answer, Builds, planar_answer, BuildsPlanar}
@@ -30,6 +20,7 @@ use Rattle.model.specs.Packing.{unpacked_decoded, unpacked_rounds, unpacked_verd
 use Rattle.model.specs.Packing.{packed_trap, unpacked_trap}
 use Rattle.model.specs.Packing.{packed_words, packed_lit, packed_game, unpacked_words, unpacked_lit, unpacked_game}
 use Rattle.table.proofs.Returned.{decode_returned, rounds_returned, verdict_returned, distance_returned, game_returned, trap_returned, torus_returned, planar_returned, stack_returned, faces_returned, read_returned, write_returned, pack_returned, unpack_returned, lit_returned, list_returned, decode_packed_returned}
+use Rattle.model.specs.Answers.{Built, Decoded, Distance, Game, Lit, Packed, Reading, RoundsDecoded, Trap, Written}
 
 exported : {A : Type 0} (pack : A → ℕ) (unpack : ℕ → A) (P : A → Type 0) {a b : A} {r : ℕ} → unpack (pack b) ≡ b → a ≡ b → r ≡ pack a → P a
     → (r ≡ pack b) × P (unpack r)

@@ -10,22 +10,12 @@ use lib.ListN.{length}
 use lib.Dec.{eqb, leb}
 use Rattle.model.specs.declared.refusal.Refusal.{Refusal}
 use Rattle.model.specs.declared.refusal.Refusal.TheVariants.{TorusSide, PlanarSide}
-use Rattle.model.specs.declared.answers.Decoded.TheVariants as decoded
-use Rattle.model.specs.declared.answers.RoundsDecoded.TheVariants as inRounds
 use Rattle.model.specs.declared.answers.Verdict.TheVariants as verdict
-use Rattle.model.specs.declared.answers.Distance.TheVariants as distance
-use Rattle.model.specs.declared.answers.Trap.TheVariants as trap
-use Rattle.model.specs.declared.answers.Built.TheVariants as built
-use Rattle.model.specs.declared.answers.Reading.TheVariants as reading
-use Rattle.model.specs.declared.answers.Written.TheVariants as written
-use Rattle.model.specs.declared.answers.Packed.TheVariants as words
-use Rattle.model.specs.declared.answers.Lit.TheVariants as lit
 use Rattle.model.specs.declared.numbers.Edge.{Edge}
 use Rattle.model.specs.declared.answers.Player.{Player}
 use Rattle.model.specs.declared.answers.Player.TheVariants.{Winder, Blocker}
 use Rattle.model.specs.declared.answers.Forced.{Forced}
 use Rattle.model.specs.declared.answers.Forced.TheVariants.{Taking, Waiting}
-use Rattle.model.specs.declared.answers.Game.TheVariants as game
 use Rattle.model.specs.Sums.{Set, ones}
 use Rattle.model.specs.Board.{Board, Sheet, Valid, edges}
 use Rattle.model.specs.Winding.{crossings, together, size}
@@ -74,6 +64,8 @@ use Rattle.game.proofs.SoundPlay.{edge_below}
 use Rattle.packed.proofs.WordTests.{pack_passes, unpack_passes, lit_passes}
 use Rattle.packed.proofs.Screening.{packed_passes}
 use Rattle.table.proofs.CallPlaces.{roomy, decode_small, verdict_small, odd_small, distance_small, game_small, trap_small, torus_side, planar_side, stack_side, faces_side, read_small, write_small, pack_small, unpack_small, lit_small, decode_packed_small}
+use Rattle.model.specs.Answers.{counts_with, key_with, rounds_with, word_counts_with}
+use Rattle.std.specs.Prelude.{Ok, Err}
 
 -- An answer comes back where the refusals of its test and what follows where it passes do.
 back : {A : Type 0} (pack : A → ℕ) (unpack : ℕ → A) {refused : Refusal → A} {else : A} (t : Test)
@@ -85,15 +77,15 @@ back pack unpack {refused} {else} t fails small passes =
 
 -- Decoding: growths and correction edges
 
-decode_refusal_lem : (n : Refusal) → place_of n < 2 ^ 56 → unpacked_decoded (packed_decoded (decoded.Refused n)) ≡ decoded.Refused n
+decode_refusal_lem : (n : Refusal) → place_of n < 2 ^ 56 → unpacked_decoded (packed_decoded (Err n)) ≡ Err n
 unfolding unpacked_decoded
-decode_refusal_lem n h = unpacked_refusal_lem decoded.Refused decoded.Key n h
+decode_refusal_lem n h = unpacked_refusal_lem Err key_with n h
 
-decode_key : (X : Sheet) → Valid X.board → unpacked_decoded (packed_decoded (decoded.Key (growths X) (size X.board (corrected X))))
-    ≡ decoded.Key (growths X) (size X.board (corrected X))
+decode_key : (X : Sheet) → Valid X.board → unpacked_decoded (packed_decoded (key_with (growths X) (size X.board (corrected X))))
+    ≡ key_with (growths X) (size X.board (corrected X))
 unfolding unpacked_decoded
 decode_key X v =
-    unpacked_values decoded.Refused decoded.Key (growths X) (size X.board (corrected X))
+    unpacked_values Err key_with (growths X) (size X.board (corrected X))
     (omega (arith, count_limit weighted X, v.inside.edges_limited))
     (omega (arith, size_bound X.board (corrected X), v.inside.edges_limited))
 
@@ -122,15 +114,15 @@ decode_packed_returned B syndrome loss support correction =
 
 -- Decoding in rounds: rounds in the place of growths
 
-rounds_refusal : (n : Refusal) → place_of n < 2 ^ 56 → unpacked_rounds (packed_rounds (inRounds.Refused n)) ≡ inRounds.Refused n
+rounds_refusal : (n : Refusal) → place_of n < 2 ^ 56 → unpacked_rounds (packed_rounds (Err n)) ≡ Err n
 unfolding unpacked_rounds
-rounds_refusal n h = unpacked_refusal_lem inRounds.Refused inRounds.RoundsKey n h
+rounds_refusal n h = unpacked_refusal_lem Err rounds_with n h
 
-rounds_key : (X : Sheet) → Valid X.board → unpacked_rounds (packed_rounds (inRounds.RoundsKey (rounds X) (size X.board (round_corrected X))))
-    ≡ inRounds.RoundsKey (rounds X) (size X.board (round_corrected X))
+rounds_key : (X : Sheet) → Valid X.board → unpacked_rounds (packed_rounds (rounds_with (rounds X) (size X.board (round_corrected X))))
+    ≡ rounds_with (rounds X) (size X.board (round_corrected X))
 unfolding unpacked_rounds
 rounds_key X v =
-    unpacked_values inRounds.Refused inRounds.RoundsKey (rounds X) (size X.board (round_corrected X))
+    unpacked_values Err rounds_with (rounds X) (size X.board (round_corrected X))
     (omega (arith, count_limit all_odd X, v.inside.edges_limited))
     (omega (arith, size_bound X.board (round_corrected X), v.inside.edges_limited))
 
@@ -195,18 +187,18 @@ faces_returned side syndrome loss handed faces h =
 
 -- The distance: the fewest edges, or none
 
-distance_refusal_lem : (n : Refusal) → place_of n < 2 ^ 56 → unpacked_distance (packed_distance (distance.Refused n)) ≡ distance.Refused n
+distance_refusal_lem : (n : Refusal) → place_of n < 2 ^ 56 → unpacked_distance (packed_distance (Err n)) ≡ Err n
 unfolding unpacked_distance
-distance_refusal_lem n h = unpacked_refusal_lem distance.Refused distance_with n h
+distance_refusal_lem n h = unpacked_refusal_lem Err distance_with n h
 
 distance_fewest : (B : Board) → Valid B → unpacked_distance (packed_distance (distance_of (fewest B))) ≡ distance_of (fewest B)
 unfolding unpacked_distance
 distance_fewest B v = go (fewest B) refl
   where
     go : (o : Option ℕ) → fewest B ≡ o → unpacked_distance (packed_distance (distance_of o)) ≡ distance_of o
-    go none p = unpacked_values distance.Refused distance_with 0 0 (omega arith) (omega arith)
+    go none p = unpacked_values Err distance_with 0 0 (omega arith) (omega arith)
     go (some d) p =
-        unpacked_values distance.Refused distance_with d 1 (omega (arith, fewest_bound B d p, v.inside.edges_limited)) (omega arith)
+        unpacked_values Err distance_with d 1 (omega (arith, fewest_bound B d p, v.inside.edges_limited)) (omega arith)
 
 pub distance_returned : (B : Board) (shown : List ℕ) → unpacked_distance (packed_distance (distance_answer B shown)) ≡ distance_answer B shown
 unfolding distance_answer
@@ -216,9 +208,9 @@ distance_returned B shown =
 
 -- The game: a player, and an edge or none
 
-game_refusal_lem : (n : Refusal) → place_of n < 2 ^ 56 → unpacked_game (packed_game (game.Refused n)) ≡ game.Refused n
+game_refusal_lem : (n : Refusal) → place_of n < 2 ^ 56 → unpacked_game (packed_game (Err n)) ≡ Err n
 unfolding unpacked_game
-game_refusal_lem n h = unpacked_refusal_lem game.Refused game_with n h
+game_refusal_lem n h = unpacked_refusal_lem Err game_with n h
 
 -- a player comes back from the byte, and both values as they are
 player_back : (P : Player) → player_with (byte_of P) ≡ P
@@ -227,12 +219,12 @@ player_back Blocker = refl
 
 game_values : (P : Player) (second : ℕ) → second < 2 ^ 24 → unpacked_game (packed (byte_of P) second) ≡ game_with (byte_of P) second
 unfolding unpacked_game
-game_values Winder second h = unpacked_values game.Refused game_with 1 second (omega arith) h
-game_values Blocker second h = unpacked_values game.Refused game_with 2 second (omega arith) h
+game_values Winder second h = unpacked_values Err game_with 1 second (omega arith) h
+game_values Blocker second h = unpacked_values Err game_with 2 second (omega arith) h
 
 -- an edge is one less than its value, which is never 0
 game_forced : (f : Forced) → ((P : Player) (e : Edge) → f ≡ Taking P e → e.0 < game_limit)
-    → unpacked_game (packed_game (game.Named f)) ≡ game.Named f
+    → unpacked_game (packed_game (Ok f)) ≡ Ok f
 game_forced (Taking P e) small =
     let below = small P e refl in
     let after : e.0 + 1 - 1 ≡ e.0 = omega arith in
@@ -250,18 +242,18 @@ game_returned B position =
 
 -- A trap: its edges, or none
 
-trap_refusal_lem : (n : Refusal) → place_of n < 2 ^ 56 → unpacked_trap (packed_trap (trap.Refused n)) ≡ trap.Refused n
+trap_refusal_lem : (n : Refusal) → place_of n < 2 ^ 56 → unpacked_trap (packed_trap (Err n)) ≡ Err n
 unfolding unpacked_trap
-trap_refusal_lem n h = unpacked_refusal_lem trap.Refused trap_with n h
+trap_refusal_lem n h = unpacked_refusal_lem Err trap_with n h
 
 trap_fewest : (B : Board) (loss : List ℕ) → Valid B → unpacked_trap (packed_trap (trap_of (fewest_trap B loss))) ≡ trap_of (fewest_trap B loss)
 unfolding unpacked_trap
 trap_fewest B loss v = go (fewest_trap B loss) refl
   where
     go : (o : Option ℕ) → fewest_trap B loss ≡ o → unpacked_trap (packed_trap (trap_of o)) ≡ trap_of o
-    go none p = unpacked_values trap.Refused trap_with 0 0 (omega arith) (omega arith)
+    go none p = unpacked_values Err trap_with 0 0 (omega arith) (omega arith)
     go (some k) p =
-        unpacked_values trap.Refused trap_with k 1 (omega (arith, trap_bound B loss k p, v.inside.edges_limited)) (omega arith)
+        unpacked_values Err trap_with k 1 (omega (arith, trap_bound B loss k p, v.inside.edges_limited)) (omega arith)
 
 pub trap_returned : (B : Board) (loss set : List ℕ) → unpacked_trap (packed_trap (trap_answer B loss set)) ≡ trap_answer B loss set
 unfolding trap_answer
@@ -271,13 +263,13 @@ trap_returned B loss set =
 
 -- The torus: L² vertices. A side is lent as 32 bits, to all builders.
 
-built_refusal : (n : Refusal) → place_of n < 2 ^ 56 → unpacked_built (packed_built (built.Refused n)) ≡ built.Refused n
+built_refusal : (n : Refusal) → place_of n < 2 ^ 56 → unpacked_built (packed_built (Err n)) ≡ Err n
 unfolding unpacked_built
-built_refusal n h = unpacked_refusal_lem built.Refused (λ vertices rest. built.Vertices vertices) n h
+built_refusal n h = unpacked_refusal_lem Err (λ vertices rest. Ok vertices) n h
 
-built_vertices : (n : ℕ) → n < 2 ^ 32 → unpacked_built (packed_built (built.Vertices n)) ≡ built.Vertices n
+built_vertices : (n : ℕ) → n < 2 ^ 32 → unpacked_built (packed_built (Ok n)) ≡ Ok n
 unfolding unpacked_built
-built_vertices n h = unpacked_values built.Refused (λ vertices rest. built.Vertices vertices) n 0 h (omega arith)
+built_vertices n h = unpacked_values Err (λ vertices rest. Ok vertices) n 0 h (omega arith)
 
 -- the side passes its test
 torus_passes : (side : ℕ) (ends marks : List ℕ) → torus_refusal side ends marks ≡ none → side ≤ largest_side
@@ -327,16 +319,16 @@ stack_returned side rounds readings ends marks syndrome h =
 
 -- Reading: both counts
 
-read_refusal_lem : (n : Refusal) → place_of n < 2 ^ 56 → unpacked_reading (packed_reading (reading.Refused n)) ≡ reading.Refused n
+read_refusal_lem : (n : Refusal) → place_of n < 2 ^ 56 → unpacked_reading (packed_reading (Err n)) ≡ Err n
 unfolding unpacked_reading
-read_refusal_lem n h = unpacked_refusal_lem reading.Refused reading.Counts n h
+read_refusal_lem n h = unpacked_refusal_lem Err counts_with n h
 
 read_counts : (text : List ℕ) (o : Read) → read_text text ≡ o → length text ≤ text_limit → LineBelow (length text + 2) o
     → unpacked_reading (packed_reading (counts o)) ≡ counts o
 unfolding unpacked_reading
 read_counts text (complete X) p h w =
     let v = (written_read text X p).valid.board in
-    unpacked_values reading.Refused reading.Counts X.board.vertices (edges X.board)
+    unpacked_values Err counts_with X.board.vertices (edges X.board)
     (omega (arith, v.inside.vertices_limited))
     (omega (arith, v.inside.edges_limited))
 read_counts text (refused n) p h w = read_refusal_lem n (omega arith)
@@ -352,13 +344,13 @@ read_returned text old =
 
 -- Writing: the byte count
 
-write_refusal_lem : (n : Refusal) → place_of n < 2 ^ 56 → unpacked_written (packed_written (written.Refused n)) ≡ written.Refused n
+write_refusal_lem : (n : Refusal) → place_of n < 2 ^ 56 → unpacked_written (packed_written (Err n)) ≡ Err n
 unfolding unpacked_written
-write_refusal_lem n h = unpacked_refusal_lem written.Refused (λ bytes rest. written.Bytes bytes) n h
+write_refusal_lem n h = unpacked_refusal_lem Err (λ bytes rest. Ok bytes) n h
 
-write_bytes : (n : ℕ) → n < 2 ^ 32 → unpacked_written (packed_written (written.Bytes n)) ≡ written.Bytes n
+write_bytes : (n : ℕ) → n < 2 ^ 32 → unpacked_written (packed_written (Ok n)) ≡ Ok n
 unfolding unpacked_written
-write_bytes n h = unpacked_values written.Refused (λ bytes rest. written.Bytes bytes) n 0 h (omega arith)
+write_bytes n h = unpacked_values Err (λ bytes rest. Ok bytes) n 0 h (omega arith)
 
 pub write_returned : (X : Sheet) (buffer : List ℕ) → unpacked_written (packed_written (write_answer X buffer)) ≡ write_answer X buffer
 unfolding write_answer
@@ -368,13 +360,13 @@ write_returned X buffer =
 
 -- Packing: both counts of words
 
-pack_refused : (n : Refusal) → place_of n < 2 ^ 56 → unpacked_words (packed_words (words.Refused n)) ≡ words.Refused n
+pack_refused : (n : Refusal) → place_of n < 2 ^ 56 → unpacked_words (packed_words (Err n)) ≡ Err n
 unfolding unpacked_words
-pack_refused n h = unpacked_refusal_lem words.Refused words.Words n h
+pack_refused n h = unpacked_refusal_lem Err word_counts_with n h
 
-pack_words : (i j : ℕ) → i < 2 ^ 32 → j < 2 ^ 24 → unpacked_words (packed_words (words.Words i j)) ≡ words.Words i j
+pack_words : (i j : ℕ) → i < 2 ^ 32 → j < 2 ^ 24 → unpacked_words (packed_words (word_counts_with i j)) ≡ word_counts_with i j
 unfolding unpacked_words
-pack_words i j h k = unpacked_values words.Refused words.Words i j h k
+pack_words i j h k = unpacked_values Err word_counts_with i j h k
 
 pub pack_returned : (n m : ℕ) (syndrome loss syndromeWords lossWords : List ℕ) →
     let r = pack_answer n m syndrome loss syndromeWords lossWords in
@@ -389,9 +381,9 @@ pack_returned n m syndrome loss syndromeWords lossWords =
 
 -- Unpacking: both counts of items
 
-unpack_counts : (n m : ℕ) → n < 2 ^ 32 → m < 2 ^ 24 → unpacked_reading (packed_reading (reading.Counts n m)) ≡ reading.Counts n m
+unpack_counts : (n m : ℕ) → n < 2 ^ 32 → m < 2 ^ 24 → unpacked_reading (packed_reading (counts_with n m)) ≡ counts_with n m
 unfolding unpacked_reading
-unpack_counts n m h k = unpacked_values reading.Refused reading.Counts n m h k
+unpack_counts n m h k = unpacked_values Err counts_with n m h k
 
 pub unpack_returned : (n m : ℕ) (syndromeWords lossWords syndrome loss : List ℕ) →
     let r = unpack_answer n m syndromeWords lossWords syndrome loss in
@@ -406,13 +398,13 @@ unpack_returned n m syndromeWords lossWords syndrome loss =
 
 -- The lit total, of the list too
 
-lit_refused : (n : Refusal) → place_of n < 2 ^ 56 → unpacked_lit (packed_lit (lit.Refused n)) ≡ lit.Refused n
+lit_refused : (n : Refusal) → place_of n < 2 ^ 56 → unpacked_lit (packed_lit (Err n)) ≡ Err n
 unfolding unpacked_lit
-lit_refused n h = unpacked_refusal_lem lit.Refused (λ total rest. lit.Total total) n h
+lit_refused n h = unpacked_refusal_lem Err (λ total rest. Ok total) n h
 
-lit_value : (t : ℕ) → t < 2 ^ 32 → unpacked_lit (packed_lit (lit.Total t)) ≡ lit.Total t
+lit_value : (t : ℕ) → t < 2 ^ 32 → unpacked_lit (packed_lit (Ok t)) ≡ Ok t
 unfolding unpacked_lit
-lit_value t h = unpacked_values lit.Refused (λ total rest. lit.Total total) t 0 h (omega arith)
+lit_value t h = unpacked_values Err (λ total rest. Ok total) t 0 h (omega arith)
 
 -- no more vertices are lit than there are bits
 total_bound : (words : List ℕ) → lit_total words ≤ 64 * length words
@@ -420,7 +412,7 @@ unfolding lit_total
 total_bound words = count_bound (64 * length words) (in_words words)
 
 total_returned : (n : ℕ) (words : List ℕ) (others : Bool) →
-    let r = answer (lit_refusal n words others) lit.Refused (lit.Total (lit_total words)) in
+    let r = answer (lit_refusal n words others) Err (Ok (lit_total words)) in
     unpacked_lit (packed_lit r) ≡ r
 total_returned n words others =
     back packed_lit unpacked_lit (lit_refusal n words others) lit_refused (roomy (lit_small n words others))

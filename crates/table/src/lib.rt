@@ -1,14 +1,15 @@
-// The static library: the calls of the table under plain C names, each answering one packed number. Of each, `number` says which number,
-// and `outcome` that what a caller takes from it is the call's answer, with the final contents of every buffer; of decoding, in rounds too,
-// of the verdict, with faces too, of the game, of traps, of the stack and of all calls on packed sheets, `sound` says what may be relied
-// on, of the same answer. The words of a packed syndrome are lent as `lit`, those of packed losses as `lost`.
+// The static library: the calls of the table under plain C names, each answering one packed number. C lends slices one by one, of which a
+// call makes its board or sheet. Of each call, `number` says which number, and `outcome` that what a caller takes from it is the call's
+// answer, with the final contents of every buffer; of decoding, in rounds too, of the verdict, with faces too, of the game, of traps, of
+// the stack and of all calls on packed sheets, `sound` says what may be relied on, of the same answer. The words of a packed syndrome are
+// lent as `lit`, those of packed losses as `lost`.
 #![tactic(auto)]
 
 mod packing;
 mod trapping;
 
 ghost use Rattle.std.specs.Prelude.{◌≡◌};
-ghost use Rattle.model.specs.Lent.{board_lent, sheet_lent};
+ghost use Rattle.model.specs.Board.{board_of, sheet_of};
 ghost use Rattle.model.specs.Outcomes.{decode_answer, Decodes, DecodesSoundly, verdict_answer, Judges, JudgesSoundly};
 ghost use Rattle.model.specs.Outcomes.{distance_answer, Measures, torus_answer, Builds, planar_answer, BuildsPlanar};
 ghost use Rattle.model.specs.GameOutcomes.{game_answer, Plays, PlaysSoundly};
@@ -22,10 +23,8 @@ ghost use Rattle.model.specs.Packing.{packed_decoded, packed_rounds, packed_verd
 ghost use Rattle.model.specs.Packing.{unpacked_decoded, unpacked_rounds, unpacked_verdict, unpacked_distance, unpacked_built, unpacked_reading, unpacked_written};
 ghost use Rattle.model.specs.Packing.{packed_words, packed_lit, packed_game, unpacked_words, unpacked_lit, unpacked_game};
 
-use crate::packing::{
-    pack, pack_decoded, pack_game, pack_lit, pack_reading, pack_refusal, pack_verdict,
-};
-use model::answers::{Built, Distance, Packed, RoundsDecoded, Written};
+use crate::packing::{as_number, verdict_as_number};
+use model::lent::{Board, PackedSheet, Sheet};
 
 // The key of a sheet: growths and correction edges, with the support and correction bytes filled.
 #[unsafe(no_mangle)]
@@ -40,15 +39,24 @@ pub extern "C" fn surface_decode(
     correction: &mut [u8],
 ) -> u64
     ensures number { result ≡ packed_decoded
-        (decode_answer (sheet_lent vertices ends.now marks.now opened.now syndrome.now loss.now) support.old correction.old) }
-    ensures outcome { Decodes (sheet_lent vertices ends.now marks.now opened.now syndrome.now loss.now) support.old correction.old
+        (decode_answer (sheet_of (board_of vertices ends.now marks.now opened.now) syndrome.now loss.now) support.old correction.old) }
+    ensures outcome { Decodes (sheet_of (board_of vertices ends.now marks.now opened.now) syndrome.now loss.now) support.old correction.old
         (unpacked_decoded result) support.new correction.new }
-    ensures sound { DecodesSoundly (sheet_lent vertices ends.now marks.now opened.now syndrome.now loss.now) support.old correction.old
+    ensures sound { DecodesSoundly (sheet_of (board_of vertices ends.now marks.now opened.now) syndrome.now loss.now) support.old correction.old
         (unpacked_decoded result) correction.new }
 {
-    pack_decoded(decoder::decode(
-        vertices, ends, marks, opened, syndrome, loss, support, correction,
-    ))
+    let board = Board {
+        vertices,
+        ends,
+        marks,
+        opened,
+    };
+    let sheet = Sheet {
+        board,
+        syndrome,
+        loss,
+    };
+    as_number(decoder::decode(sheet, support, correction))
 }
 
 // The key of a sheet by rounds: rounds and correction edges, with the support and correction bytes filled.
@@ -64,18 +72,24 @@ pub extern "C" fn surface_decode_rounds(
     correction: &mut [u8],
 ) -> u64
     ensures number { result ≡ packed_rounds
-        (rounds_answer (sheet_lent vertices ends.now marks.now opened.now syndrome.now loss.now) support.old correction.old) }
-    ensures outcome { DecodesInRounds (sheet_lent vertices ends.now marks.now opened.now syndrome.now loss.now) support.old correction.old
+        (rounds_answer (sheet_of (board_of vertices ends.now marks.now opened.now) syndrome.now loss.now) support.old correction.old) }
+    ensures outcome { DecodesInRounds (sheet_of (board_of vertices ends.now marks.now opened.now) syndrome.now loss.now) support.old correction.old
         (unpacked_rounds result) support.new correction.new }
-    ensures sound { RoundsSoundly (sheet_lent vertices ends.now marks.now opened.now syndrome.now loss.now) support.old correction.old
+    ensures sound { RoundsSoundly (sheet_of (board_of vertices ends.now marks.now opened.now) syndrome.now loss.now) support.old correction.old
         (unpacked_rounds result) support.new correction.new }
 {
-    match decoder::decode_rounds(
-        vertices, ends, marks, opened, syndrome, loss, support, correction,
-    ) {
-        RoundsDecoded::RoundsKey { rounds, edges } => pack(rounds, edges),
-        RoundsDecoded::Refused(n) => pack_refusal(n),
-    }
+    let board = Board {
+        vertices,
+        ends,
+        marks,
+        opened,
+    };
+    let sheet = Sheet {
+        board,
+        syndrome,
+        loss,
+    };
+    as_number(decoder::decode_rounds(sheet, support, correction))
 }
 
 // The key of a packed sheet, as of its bytes: growths and correction edges, with the support and correction bytes filled.
@@ -91,15 +105,20 @@ pub extern "C" fn surface_decode_packed(
     correction: &mut [u8],
 ) -> u64
     ensures number { result ≡ packed_decoded
-        (decode_packed_answer (board_lent vertices ends.now marks.now opened.now) lit.now lost.now support.old correction.old) }
-    ensures outcome { DecodesPacked (board_lent vertices ends.now marks.now opened.now) lit.now lost.now support.old correction.old
+        (decode_packed_answer (board_of vertices ends.now marks.now opened.now) lit.now lost.now support.old correction.old) }
+    ensures outcome { DecodesPacked (board_of vertices ends.now marks.now opened.now) lit.now lost.now support.old correction.old
         (unpacked_decoded result) support.new correction.new }
-    ensures sound { DecodesPackedSoundly (board_lent vertices ends.now marks.now opened.now) lit.now lost.now support.old correction.old
+    ensures sound { DecodesPackedSoundly (board_of vertices ends.now marks.now opened.now) lit.now lost.now support.old correction.old
         (unpacked_decoded result) support.new correction.new }
 {
-    pack_decoded(packed::decode_packed(
-        vertices, ends, marks, opened, lit, lost, support, correction,
-    ))
+    let board = Board {
+        vertices,
+        ends,
+        marks,
+        opened,
+    };
+    let sheet = PackedSheet { board, lit, lost };
+    as_number(packed::decode_packed(sheet, support, correction))
 }
 
 // The verdict on a handed-in set: 1 off with the vertex, 2 same, 3 wound with the value.
@@ -113,11 +132,22 @@ pub extern "C" fn surface_verdict(
     loss: &[u8],
     handed: &[u8],
 ) -> u64
-    ensures number { result ≡ packed_verdict (verdict_answer (sheet_lent vertices ends.now marks.now opened.now syndrome.now loss.now) handed.now) }
-    ensures outcome { Judges (sheet_lent vertices ends.now marks.now opened.now syndrome.now loss.now) handed.now (unpacked_verdict result) }
-    ensures sound { JudgesSoundly (sheet_lent vertices ends.now marks.now opened.now syndrome.now loss.now) handed.now (unpacked_verdict result) }
+    ensures number { result ≡ packed_verdict (verdict_answer (sheet_of (board_of vertices ends.now marks.now opened.now) syndrome.now loss.now) handed.now) }
+    ensures outcome { Judges (sheet_of (board_of vertices ends.now marks.now opened.now) syndrome.now loss.now) handed.now (unpacked_verdict result) }
+    ensures sound { JudgesSoundly (sheet_of (board_of vertices ends.now marks.now opened.now) syndrome.now loss.now) handed.now (unpacked_verdict result) }
 {
-    pack_verdict(verdict::verdict(vertices, ends, marks, opened, syndrome, loss, handed))
+    let board = Board {
+        vertices,
+        ends,
+        marks,
+        opened,
+    };
+    let sheet = Sheet {
+        board,
+        syndrome,
+        loss,
+    };
+    verdict_as_number(verdict::verdict(sheet, handed))
 }
 
 // The verdict on a handed-in set on the torus of a side, with a byte for each face filled where it is same: as the verdict's.
@@ -136,7 +166,7 @@ pub extern "C" fn surface_faces(
     ensures sound { FacesSoundly side syndrome.now loss.now handed.now faces.old
         (unpacked_verdict result) faces.new }
 {
-    pack_verdict(faces::faces(side as usize, syndrome, loss, handed, faces))
+    verdict_as_number(faces::faces(side as usize, syndrome, loss, handed, faces))
 }
 
 // The distance of a board, with a shortest winding loop in `shown`: the fewest edges and 1, or 0 and 0 where there is none.
@@ -148,14 +178,16 @@ pub extern "C" fn surface_distance(
     opened: &[u8],
     shown: &mut [u8],
 ) -> u64
-    ensures number { result ≡ packed_distance (distance_answer (board_lent vertices ends.now marks.now opened.now) shown.old) }
-    ensures outcome { Measures (board_lent vertices ends.now marks.now opened.now) shown.old (unpacked_distance result) shown.new }
+    ensures number { result ≡ packed_distance (distance_answer (board_of vertices ends.now marks.now opened.now) shown.old) }
+    ensures outcome { Measures (board_of vertices ends.now marks.now opened.now) shown.old (unpacked_distance result) shown.new }
 {
-    match distance::distance(vertices, ends, marks, opened, shown) {
-        Distance::Fewest(d) => pack(d, 1),
-        Distance::Nothing => pack(0, 0),
-        Distance::Refused(n) => pack_refusal(n),
-    }
+    let board = Board {
+        vertices,
+        ends,
+        marks,
+        opened,
+    };
+    as_number(distance::distance(board, shown))
 }
 
 // The torus of a side, with its ends and marks filled: the vertex count.
@@ -164,10 +196,7 @@ pub extern "C" fn surface_torus(side: u32, ends: &mut [u16], marks: &mut [u8]) -
     ensures number { result ≡ packed_built (torus_answer side ends.old marks.old) }
     ensures outcome { Builds side ends.old marks.old (unpacked_built result) ends.new marks.new }
 {
-    match torus::torus(side as usize, ends, marks) {
-        Built::Vertices(n) => pack(n, 0),
-        Built::Refused(n) => pack_refusal(n),
-    }
+    as_number(torus::torus(side as usize, ends, marks))
 }
 
 // The planar board of a side, with its ends, marks and open bytes filled: the vertex count.
@@ -182,10 +211,7 @@ pub extern "C" fn surface_planar(
     ensures outcome { BuildsPlanar side ends.old marks.old opened.old
         (unpacked_built result) ends.new marks.new opened.new }
 {
-    match planar::planar(side as usize, ends, marks, opened) {
-        Built::Vertices(n) => pack(n, 0),
-        Built::Refused(n) => pack_refusal(n),
-    }
+    as_number(planar::planar(side as usize, ends, marks, opened))
 }
 
 // The stack of a side and a number of rounds, with its ends, marks and syndrome filled from the readings: the vertex count.
@@ -205,17 +231,14 @@ pub extern "C" fn surface_stack(
     ensures sound { StacksSoundly side rounds readings.now
         (unpacked_built result) ends.new marks.new syndrome.new }
 {
-    match stack::stack(
+    as_number(stack::stack(
         side as usize,
         rounds as usize,
         readings,
         ends,
         marks,
         syndrome,
-    ) {
-        Built::Vertices(n) => pack(n, 0),
-        Built::Refused(n) => pack_refusal(n),
-    }
+    ))
 }
 
 // The sheet that a text holds, with the entries of its counts filled: vertices and edges.
@@ -234,7 +257,7 @@ pub extern "C" fn surface_read(
     ensures outcome { Reads text.now (buffers_of ends.old marks.old opened.old syndrome.old loss.old)
         (unpacked_reading result) (buffers_of ends.new marks.new opened.new syndrome.new loss.new) }
 {
-    pack_reading(text::reading::read(text, ends, marks, opened, syndrome, loss))
+    as_number(text::reading::read(text, ends, marks, opened, syndrome, loss))
 }
 
 // The text of a sheet, at the front of the lent buffer: its bytes.
@@ -248,13 +271,21 @@ pub extern "C" fn surface_write(
     loss: &[u8],
     text: &mut [u8],
 ) -> u64
-    ensures number { result ≡ packed_written (write_answer (sheet_lent vertices ends.now marks.now opened.now syndrome.now loss.now) text.old) }
-    ensures outcome { Writes (sheet_lent vertices ends.now marks.now opened.now syndrome.now loss.now) text.old (unpacked_written result) text.new }
+    ensures number { result ≡ packed_written (write_answer (sheet_of (board_of vertices ends.now marks.now opened.now) syndrome.now loss.now) text.old) }
+    ensures outcome { Writes (sheet_of (board_of vertices ends.now marks.now opened.now) syndrome.now loss.now) text.old (unpacked_written result) text.new }
 {
-    match text::writing::write(vertices, ends, marks, opened, syndrome, loss, text) {
-        Written::Bytes(n) => pack(n, 0),
-        Written::Refused(n) => pack_refusal(n),
-    }
+    let board = Board {
+        vertices,
+        ends,
+        marks,
+        opened,
+    };
+    let sheet = Sheet {
+        board,
+        syndrome,
+        loss,
+    };
+    as_number(text::writing::write(sheet, text))
 }
 
 // The words of a syndrome and of losses, filled from their bytes: how many there are of each.
@@ -273,13 +304,7 @@ pub extern "C" fn surface_pack(
         (unpacked_words result) lit.new lost.new }
     ensures sound { PacksSoundly vertices edges syndrome.now loss.now (unpacked_words result) lit.new lost.new }
 {
-    match packed::pack(vertices, edges, syndrome, loss, lit, lost) {
-        Packed::Words {
-            syndrome: i,
-            loss: j,
-        } => pack(i, j),
-        Packed::Refused(n) => pack_refusal(n),
-    }
+    as_number(packed::pack(vertices, edges, syndrome, loss, lit, lost))
 }
 
 // The bytes of a syndrome and of losses, filled from their words: vertices and edges.
@@ -298,7 +323,7 @@ pub extern "C" fn surface_unpack(
         (unpacked_reading result) syndrome.new loss.new }
     ensures sound { UnpacksSoundly vertices edges lit.now lost.now (unpacked_reading result) syndrome.new loss.new }
 {
-    pack_reading(packed::unpack(vertices, edges, lit, lost, syndrome, loss))
+    as_number(packed::unpack(vertices, edges, lit, lost, syndrome, loss))
 }
 
 // The lit vertices of a packed syndrome: their total.
@@ -308,7 +333,7 @@ pub extern "C" fn surface_lit_total(vertices: usize, lit: &[u64]) -> u64
     ensures outcome { Totals vertices lit.now (unpacked_lit result) }
     ensures sound { TotalsSoundly vertices lit.now (unpacked_lit result) }
 {
-    pack_lit(packed::lit_total(vertices, lit))
+    as_number(packed::lit_total(vertices, lit))
 }
 
 // The same, with the lit vertices, rising, at the front of the lent list: their total.
@@ -318,7 +343,7 @@ pub extern "C" fn surface_list_lit(vertices: usize, lit: &[u64], list: &mut [u16
     ensures outcome { Lists vertices lit.now list.old (unpacked_lit result) list.new }
     ensures sound { TotalsSoundly vertices lit.now (unpacked_lit result) }
 {
-    pack_lit(packed::list_lit(vertices, lit, list))
+    as_number(packed::list_lit(vertices, lit, list))
 }
 
 // Who can force the win of the game from a position: 1 Winder, 2 Blocker; and one more than the edge to take, or 0 where none is shown.
@@ -330,9 +355,15 @@ pub extern "C" fn surface_game(
     opened: &[u8],
     position: &[u8],
 ) -> u64
-    ensures number { result ≡ packed_game (game_answer (board_lent vertices ends.now marks.now opened.now) position.now) }
-    ensures outcome { Plays (board_lent vertices ends.now marks.now opened.now) position.now (unpacked_game result) }
-    ensures sound { PlaysSoundly (board_lent vertices ends.now marks.now opened.now) position.now (unpacked_game result) }
+    ensures number { result ≡ packed_game (game_answer (board_of vertices ends.now marks.now opened.now) position.now) }
+    ensures outcome { Plays (board_of vertices ends.now marks.now opened.now) position.now (unpacked_game result) }
+    ensures sound { PlaysSoundly (board_of vertices ends.now marks.now opened.now) position.now (unpacked_game result) }
 {
-    pack_game(game::game(vertices, ends, marks, opened, position))
+    let board = Board {
+        vertices,
+        ends,
+        marks,
+        opened,
+    };
+    as_number(game::game(board, position))
 }

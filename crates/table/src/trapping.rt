@@ -1,10 +1,11 @@
 // The search for a trap under its plain C name; what `number`, `outcome` and `sound` say is told at the head of `lib.rt`.
 ghost use Rattle.std.specs.Prelude.{◌≡◌};
-ghost use Rattle.model.specs.Lent.{board_lent};
+ghost use Rattle.model.specs.Board.{board_of};
 ghost use Rattle.model.specs.TrapOutcomes.{trap_answer, SetsTrap, TrapsSoundly};
 ghost use Rattle.model.specs.Packing.{packed_trap, unpacked_trap};
 
-use crate::packing::pack_trap;
+use crate::packing::as_number;
+use model::lent::Board;
 
 // A trap of fewest edges in `set`: its edges and 1, or 0 and 0 where there is none.
 #[unsafe(no_mangle)]
@@ -16,9 +17,15 @@ pub extern "C" fn surface_trap(
     loss: &[u8],
     set: &mut [u8],
 ) -> u64
-    ensures number { result ≡ packed_trap (trap_answer (board_lent vertices ends.now marks.now opened.now) loss.now set.old) }
-    ensures outcome { SetsTrap (board_lent vertices ends.now marks.now opened.now) loss.now set.old (unpacked_trap result) set.new }
-    ensures sound { TrapsSoundly (board_lent vertices ends.now marks.now opened.now) loss.now set.old (unpacked_trap result) set.new }
+    ensures number { result ≡ packed_trap (trap_answer (board_of vertices ends.now marks.now opened.now) loss.now set.old) }
+    ensures outcome { SetsTrap (board_of vertices ends.now marks.now opened.now) loss.now set.old (unpacked_trap result) set.new }
+    ensures sound { TrapsSoundly (board_of vertices ends.now marks.now opened.now) loss.now set.old (unpacked_trap result) set.new }
 {
-    pack_trap(trap::trap(vertices, ends, marks, opened, loss, set))
+    let board = Board {
+        vertices,
+        ends,
+        marks,
+        opened,
+    };
+    as_number(trap::trap(board, loss, set))
 }

@@ -1,7 +1,7 @@
 -- Laws of the pieces between parting bytes, and of what stands before the first of those bytes. Assumes nothing.
 use Prim.Native.Nat.{ℕ, suc, ◌+◌, ◌≤◌, ◌<◌}
 use mathlib.Core.Path.{◌≡◌, refl, ap, ◌∙◌}
-use mathlib.Core.Bool.{Bool, true, false, cond}
+use mathlib.Core.Bool.{Bool, true, false, cond, not}
 use mathlib.Core.List.{List, [], ◌∷◌}
 use native.Mathlib.Nat.{not-suc-le-zero, le_of_suc-le-suc}
 use native.Mathlib.Numerals.{add-one}
@@ -9,6 +9,8 @@ use native.Mathlib.Omega.{arith}
 use lib.ListN.{length, get_or, take, drop, drop_of_length-le, length-drop}
 use lib.Seq.{drop-cons, drop-drop}
 use lib.Dec.{eqb}
+use Rattle.std.specs.List.{take_while}
+use Rattle.std.proofs.lemmas.List.Sums.{take_while-cons}
 use Rattle.model.specs.Text.{parted_by}
 use Rattle.text.specs.Pieces.{up_to}
 
@@ -21,6 +23,17 @@ up_to_at p l i h = rw (drop-cons l i 0 h, add-one i)
 pub up_to_end : (p : ℕ) (l : List ℕ) (i : ℕ) → length l ≤ i → up_to p (drop i l) ≡ []
 unfolding up_to
 up_to_end p l i h = rw (drop_of_length-le l h)
+
+-- the same as a search of the list for the first p finds it
+pub up_to_while : (p : ℕ) (l : List ℕ) → up_to p l ≡ take_while (λ b. not (eqb b p)) l
+unfolding up_to
+up_to_while p [] = refl
+up_to_while p (b ∷ bs) = rw take_while-cons (go (up_to_while p bs) (eqb b p))
+  where
+    go : up_to p bs ≡ take_while (λ b. not (eqb b p)) bs → (t : Bool)
+        → cond t [] (b ∷ up_to p bs) ≡ cond (not t) (b ∷ take_while (λ b. not (eqb b p)) bs) []
+    go later true = refl
+    go later false = ap (λ xs. b ∷ xs) later
 
 pub take_up_to : (p : ℕ) (l : List ℕ) → take (length (up_to p l)) l ≡ up_to p l
 unfolding up_to

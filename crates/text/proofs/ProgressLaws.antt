@@ -7,7 +7,6 @@ use mathlib.Core.Option.{some}
 use lib.ListN.{length, drop}
 use Rattle.model.specs.declared.refusal.Refusal.{Refusal}
 use Rattle.model.specs.declared.refusal.Refusal.TheVariants.{MalformedLine}
-use Rattle.model.specs.declared.answers.Reading.TheVariants as reading
 use Rattle.model.specs.Board.{Sheet, edges, vertex_limit, edge_limit}
 use Rattle.model.specs.Text.{newline, parted_by, refused, first_line, begun, read_on, read_text}
 use Rattle.model.specs.TextOutcomes.{Buffers, counts}
@@ -17,6 +16,8 @@ use Rattle.text.specs.Order.{meant, may_stand}
 use Rattle.text.specs.Scratch.{Sized, Clear, edges_with, Stores, Holds, ReadsInto}
 use Rattle.text.proofs.ReadLaws.{LineIs, NoLine, with_line, may_stand_on, same_stand, goes_on, out_of_place, malformed, finishes, first_is}
 use Rattle.text.proofs.HoldLaws.{holds_begun, holds_line, edges_with_lem, vertices_with}
+use Rattle.model.specs.Answers.{counts_with}
+use Rattle.std.specs.Prelude.{Err}
 
 -- the sheet so far, which the arrays hold, and the line that comes next
 pub record Progress (t : List ℕ) (b : Buffers) (n at k : ℕ) (last : Line) (m : ℕ) : Type 0 where
@@ -27,7 +28,7 @@ pub record Progress (t : List ℕ) (b : Buffers) (n at k : ℕ) (last : Line) (m
   pub holds : Holds sheet b
 
 -- a refused text says nothing of what the arrays hold
-pub into_refused : (t : List ℕ) (b : Buffers) (r : Refusal) → read_text t ≡ refused r → Sized b → ReadsInto t (reading.Refused r) b
+pub into_refused : (t : List ℕ) (b : Buffers) (r : Refusal) → read_text t ≡ refused r → Sized b → ReadsInto t (Err r) b
 into_refused t b r p sized = record { result = sym (ap counts p); sized = sized; held = rw p tt }
 
 -- the first line, which is taken
@@ -56,11 +57,11 @@ module _ (t : List ℕ) (b : Buffers) (n at k : ℕ) (last : Line) (m : ℕ) (w 
   pub ends_malformed : at < length t → NoLine t at → read_text t ≡ refused (MalformedLine k)
   ends_malformed h none = w.reading ∙ malformed w.sheet (meant last) k t at w.holds.vertices_limited w.holds.edges_limited h none
 
-  pub finished : length t ≤ at → ReadsInto t (reading.Counts n m) b
+  pub finished : length t ≤ at → ReadsInto t (counts_with n m) b
   finished h =
       let is = w.reading ∙ finishes w.sheet (meant last) k t at h in
       record {
-        result = ap₂ reading.Counts (sym w.vertices_are) (sym w.edges_are) ∙ sym (ap counts is);
+        result = ap₂ counts_with (sym w.vertices_are) (sym w.edges_are) ∙ sym (ap counts is);
         sized = w.holds.sized;
         held = rw is w.holds;
       }

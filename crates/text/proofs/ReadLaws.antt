@@ -17,7 +17,8 @@ use Rattle.model.specs.Board.{Sheet, edges, vertex_limit, edge_limit}
 use Rattle.model.specs.Text as text
 use Rattle.model.specs.Text.{V_line, E_line, O_line, S_line, X_line, newline, numbers_of, parted_by, line_from, complete, refused, or_malformed, first_line, begun, edge_may_follow, open_may_follow, syndrome_may_follow, loss_may_follow, with_edge, with_open, with_syndrome, with_loss, step, read_on, read_lines, read_text}
 use Rattle.text.specs.declared.line.Line.{Line}
-use Rattle.text.specs.declared.line.LineRead.TheVariants as lineread
+use Rattle.std.specs.Prelude.{Some, None}
+use Rattle.text.specs.declared.line.LineRead.{LineRead}
 use Rattle.text.specs.Pieces.{up_to}
 use Rattle.text.specs.LineReadings.{as_line, as_parsed, small, line_parsed, as_read, line_read_at}
 use Rattle.text.specs.Order.{meant, edge_fits, lit_fits, may_stand}
@@ -61,10 +62,9 @@ module _ (t : List ℕ) (at k : ℕ) where
       go true p = some-where (ltb-true ends (length t) p)
       go false p = nowhere (ltb-false ends (length t) p)
 
-  pub line_is : (l : Line) (next k' : ℕ) → line_read_at at k (parted_by newline (drop at t)) ≡ lineread.Line l next k'
-      → LineIs t at k l next k'
+  pub line_is : (x : LineRead) → line_read_at at k (parted_by newline (drop at t)) ≡ Some x → LineIs t at k x.line x.next x.number
   unfolding line_read_at ends
-  line_is l next k' p =
+  line_is x p =
       newline?
       (λ h.
       let w = parted newline (drop (ends + 1) t) in
@@ -76,16 +76,17 @@ module _ (t : List ℕ) (at k : ℕ) where
     where
       found : ends < length t → parted_by newline (drop at t) ≡ up_to newline (drop at t) ∷ parted_by newline (drop (ends + 1) t)
           → (o : Option text.Line) → line_from (up_to newline (drop at t)) ≡ o
-          → as_read (line_parsed o) (ends + 1) (k + 1) ≡ lineread.Line l next k' → LineIs t at k l next k'
+          → as_read (line_parsed o) (ends + 1) (k + 1) ≡ Some x → LineIs t at k x.line x.next x.number
       found h q none r p = zero_one (cc)
       found h q (some line) r p = kept (small (numbers_of line)) p
         where
-          kept : (b : Bool) → as_read (as_parsed (cond b (some line) none)) (ends + 1) (k + 1) ≡ lineread.Line l next k'
-              → LineIs t at k l next k'
+          kept : (b : Bool) → as_read (as_parsed (cond b (some line) none)) (ends + 1) (k + 1) ≡ Some x
+              → LineIs t at k x.line x.next x.number
           kept true p =
-              let is : as_line line ≡ l = cc in
-              let there : ends + 1 ≡ next = cc in
-              let number : k + 1 ≡ k' = cc in
+              let same : ◌≡◌ {A = LineRead} (record { line = as_line line; next = ends + 1; number = k + 1 }) x = cc in
+              let is = ap (λ (y : LineRead). y.line) same in
+              let there = ap (λ (y : LineRead). y.next) same in
+              let number = ap (λ (y : LineRead). y.number) same in
               record {
                 bytes = up_to newline (drop at t);
                 pieces = q ∙ ap (λ j. up_to newline (drop at t) ∷ parted_by newline (drop j t)) there;
@@ -96,7 +97,7 @@ module _ (t : List ℕ) (at k : ℕ) where
               }
           kept false p = zero_one (cc)
 
-  pub no_line : line_read_at at k (parted_by newline (drop at t)) ≡ lineread.Malformed → NoLine t at
+  pub no_line : line_read_at at k (parted_by newline (drop at t)) ≡ None → NoLine t at
   unfolding line_read_at ends
   no_line p =
       newline?
@@ -109,12 +110,12 @@ module _ (t : List ℕ) (at k : ℕ) where
     where
       lost : (next : List ℕ) (rest : List (List ℕ)) → parted_by newline (drop at t) ≡ up_to newline (drop at t) ∷ next ∷ rest
           → (o : Option text.Line) → line_from (up_to newline (drop at t)) ≡ o
-          → as_read (line_parsed o) (ends + 1) (k + 1) ≡ lineread.Malformed → NoLine t at
+          → as_read (line_parsed o) (ends + 1) (k + 1) ≡ None → NoLine t at
       lost next rest q none r p = unread (up_to newline (drop at t)) next rest q r
       lost next rest q (some line) r p = cut (small (numbers_of line)) refl p
         where
           cut : (b : Bool) → small (numbers_of line) ≡ b
-              → as_read (as_parsed (cond b (some line) none)) (ends + 1) (k + 1) ≡ lineread.Malformed → NoLine t at
+              → as_read (as_parsed (cond b (some line) none)) (ends + 1) (k + 1) ≡ None → NoLine t at
           cut true e p = zero_one (cc)
           cut false e p = large (up_to newline (drop at t)) next rest line q r e
 

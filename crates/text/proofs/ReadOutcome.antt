@@ -1,23 +1,23 @@
 -- The outcome of a read, from the tests that passed and from what the lines came to. Assumes nothing.
 use Prim.Native.Nat.{ℕ, ◌*◌, ◌≤◌, ◌<◌}
-use mathlib.Core.Path.{◌≡◌, refl, sym, ap, ap₂, ◌∙◌}
+use mathlib.Core.Path.{◌≡◌, refl, sym, ap, ◌∙◌}
 use mathlib.Core.Bool.{Bool, true, false, ◌&&◌}
 use mathlib.Core.List.{List, ◌++◌}
 use native.Mathlib.Omega.{arith}
-use borrow.Author.Tests.{eqb-true, eq-eqb, le-leb, lt-leb}
+use borrow.Author.Tests.{eq-eqb, le-leb, lt-leb}
 use lib.ListN.{length, take, drop}
 use lib.Seq.{length-take-le}
-use Rattle.model.proofs.Xor.{and_left, and_right}
 use Rattle.model.specs.declared.refusal.Refusal.{Refusal}
 use Rattle.model.specs.declared.refusal.Refusal.TheVariants.{BufferLength, TextLength}
-use Rattle.model.specs.declared.answers.Reading.{Reading}
-use Rattle.model.specs.declared.answers.Reading.TheVariants as reading
-use Rattle.model.specs.Board.{edges, vertex_limit, edge_limit}
+use Rattle.model.specs.declared.answers.Counts.{Counts}
+use Rattle.model.specs.Board.{Sheet, edges, vertex_limit, edge_limit}
 use Rattle.model.specs.Refusals.{sized}
 use Rattle.model.specs.Text.{Read, complete, refused, read_text}
 use Rattle.model.specs.TextOutcomes.{text_limit, over, Buffers, buffers_of, read_refusal, read_outcome, counts, filled, Reads}
+use Rattle.model.proofs.Contradiction.{zero_one}
 use Rattle.board.proofs.CopyLaws.{copied}
-use Rattle.text.specs.Scratch.{Sized, Held, ReadsInto}
+use Rattle.text.specs.Scratch.{Sized, Held, Holds, ReadsInto}
+use Rattle.std.specs.Prelude.{Ok, Err}
 
 -- the lent buffers have their lengths
 abbrev pub fit : Buffers → Bool
@@ -28,24 +28,6 @@ fit b =
     && sized b.syndrome vertex_limit
     && sized b.loss edge_limit
 
-pub fits_sized : (b : Buffers) → fit b ≡ true → Sized b
-fits_sized b p =
-    let e = sized b.ends (2 * edge_limit) in
-    let m = sized b.marks edge_limit in
-    let o = sized b.opened vertex_limit in
-    let s = sized b.syndrome vertex_limit in
-    let l = sized b.loss edge_limit in
-    let emos = and_left (e && m && o && s) l p in
-    let emo = and_left (e && m && o) s emos in
-    let em = and_left (e && m) o emo in
-    record {
-      ends_long = eqb-true _ _ (and_left e m em);
-      marks_long = eqb-true _ _ (and_right e m em);
-      open_long = eqb-true _ _ (and_right (e && m) o emo);
-      syndrome_long = eqb-true _ _ (and_right (e && m && o) s emos);
-      loss_long = eqb-true _ _ (and_right (e && m && o && s) l p);
-    }
-
 pub sized_fits : (b : Buffers) → Sized b → fit b ≡ true
 sized_fits b z =
     rw (
@@ -55,15 +37,6 @@ sized_fits b z =
       eq-eqb (length b.syndrome) vertex_limit z.syndrome_long,
       eq-eqb (length b.loss) edge_limit z.loss_long,
     )
-
--- how many vertices and edges a reading fills in: none where it is refused
-abbrev pub vertices_filled : Reading → ℕ
-vertices_filled (reading.Counts n m) = n
-vertices_filled (reading.Refused f) = 0
-
-abbrev pub edges_filled : Reading → ℕ
-edges_filled (reading.Counts n m) = m
-edges_filled (reading.Refused f) = 0
 
 -- the entries of n vertices and m edges copied from one buffer after the other
 abbrev copied_over : Buffers → Buffers → ℕ → ℕ → Buffers
@@ -76,25 +49,14 @@ copied_over new old n m =
       loss = copied new.loss old.loss m;
     }
 
--- a reading's counts are within the limits
-pub few_filled : (t : List ℕ) (r : Reading) (b : Buffers) → ReadsInto t r b
-    → (vertices_filled r ≤ vertex_limit) × (edges_filled r ≤ edge_limit)
-few_filled t r b w = rw w.result (go (read_text t) w.held)
-  where
-    go : (o : Read) → Held o b → (vertices_filled (counts o) ≤ vertex_limit) × (edges_filled (counts o) ≤ edge_limit)
-    go (complete X) h = (h.vertices_limited, h.edges_limited)
-    go (refused f) h = (omega arith, omega arith)
-
 -- the entries held in front, copied over what is lent
 laid : (new old : List ℕ) {part : List ℕ} (k : ℕ) → take k new ≡ part → k ≤ length new → copied new old k ≡ over part old
 laid new old {part} k p h =
     ap (λ x. x ++ drop k old) p ∙ ap (λ n. part ++ drop n old) (sym (length-take-le k new h) ∙ ap length p)
 
--- what was read, copied over what is lent
-copied_filled : (o : Read) (new old : Buffers) → Held o new
-    → copied_over new old (vertices_filled (counts o)) (edges_filled (counts o)) ≡ filled o old
-copied_filled (refused f) new old h = refl
-copied_filled (complete X) new old h =
+-- the sheet that was read, copied over what is lent
+copied_sheet : (X : Sheet) (new old : Buffers) → Holds X new → copied_over new old X.board.vertices (edges X.board) ≡ filled (complete X) old
+copied_sheet X new old h =
     let n = X.board.vertices in
     let m = edges X.board in
     let z = h.sized in
@@ -108,15 +70,15 @@ copied_filled (complete X) new old h =
 
 module _ (t : List ℕ) (old : Buffers) where
   -- a test that fails writes nothing
-  nothing_written : (n : Refusal) → read_outcome t old ≡ refused n → Reads t old (reading.Refused n) old
+  nothing_written : (n : Refusal) → read_outcome t old ≡ refused n → Reads t old (Err n) old
   nothing_written n p = record { result = sym (ap counts p); buffers = sym (ap (λ o. filled o old) p) }
 
-  pub wrong_length : fit old ≡ false → Reads t old (reading.Refused BufferLength) old
+  pub wrong_length : fit old ≡ false → Reads t old (Err BufferLength) old
   unfolding read_outcome read_refusal
   wrong_length p = nothing_written BufferLength (rw p)
 
   module _ (fits : fit old ≡ true) where
-    pub too_long : text_limit < length t → Reads t old (reading.Refused TextLength) old
+    pub too_long : text_limit < length t → Reads t old (Err TextLength) old
     unfolding read_outcome read_refusal
     too_long h = nothing_written TextLength (rw (fits, lt-leb (length t) text_limit h))
 
@@ -126,18 +88,31 @@ module _ (t : List ℕ) (old : Buffers) where
       unfolding read_outcome read_refusal
       by_lines = rw (fits, le-leb (length t) text_limit short)
 
-      -- as many entries were copied as the reading fills in
-      pub reads : (r : Reading) (new : Buffers) (n m : ℕ) (e k o s l : List ℕ) → ReadsInto t r new → n ≡ vertices_filled r
-          → m ≡ edges_filled r
-          → e ≡ copied new.ends old.ends (2 * m) → k ≡ copied new.marks old.marks m
-          → o ≡ copied new.opened old.opened n → s ≡ copied new.syndrome old.syndrome n
-          → l ≡ copied new.loss old.loss m → Reads t old r (buffers_of e k o s l)
-      reads r new n m e k o s l w vertices edges e-is k-is o_is s-is l-is =
+      -- a reading that is refused fills nothing in
+      pub none_filled : (f : Refusal) (new : Buffers) → ReadsInto t (Err f) new → Reads t old (Err f) old
+      none_filled f new w =
+          record { result = w.result ∙ ap counts (sym by_lines); buffers = go (read_text t) w.result ∙ ap (λ o. filled o old) (sym by_lines) }
+        where
+          go : (o : Read) → Err f ≡ counts o → old ≡ filled o old
+          go (complete X) p = zero_one (cc)
+          go (refused n) p = refl
+
+      -- as many entries were copied as the counts say
+      pub reads : (c : Counts) (new : Buffers) (e k o s l : List ℕ) → ReadsInto t (Ok c) new
+          → e ≡ copied new.ends old.ends (2 * c.edges) → k ≡ copied new.marks old.marks c.edges
+          → o ≡ copied new.opened old.opened c.vertices → s ≡ copied new.syndrome old.syndrome c.vertices
+          → l ≡ copied new.loss old.loss c.edges → Reads t old (Ok c) (buffers_of e k o s l)
+      reads c new e k o s l w e-is k-is o_is s-is l-is =
           record {
             result = w.result ∙ ap counts (sym by_lines);
             buffers =
                 (λ i. buffers_of (e-is i) (k-is i) (o_is i) (s-is i) (l-is i))
-                ∙ ap₂ (copied_over new old) (vertices ∙ ap vertices_filled w.result) (edges ∙ ap edges_filled w.result)
-                ∙ copied_filled (read_text t) new old w.held
+                ∙ go (read_text t) w.result w.held
                 ∙ ap (λ o. filled o old) (sym by_lines);
           }
+        where
+          go : (o : Read) → Ok c ≡ counts o → Held o new → copied_over new old c.vertices c.edges ≡ filled o old
+          go (complete X) p h =
+              let c-is : c ≡ record { vertices = X.board.vertices; edges = edges X.board } = cc in
+              ap (λ x. copied_over new old x.vertices x.edges) c-is ∙ copied_sheet X new old h
+          go (refused f) p h = zero_one (cc)

@@ -10,7 +10,6 @@ use borrow.Author.Tests.{eq-eqb, ltb-true, ltb-false}
 use lib.ListN.{length, get_or}
 use lib.Dec.{leb, ltb}
 use Rattle.model.specs.declared.refusal.Refusal.TheVariants.{BufferLength, TextLength, MalformedLine}
-use Rattle.model.specs.declared.answers.Reading.TheVariants as reading
 use Rattle.model.specs.Text.{newline, Read, complete, refused, read_text}
 use Rattle.model.specs.TextOutcomes.{text_limit, Buffers, read_refusal, read_outcome, counts, Reads}
 use Rattle.model.specs.LineNumbers.{newlines, newlines_before, line_number, LineBegins, FirstMalformed, FirstMalformedNumber}
@@ -18,27 +17,28 @@ use Rattle.model.proofs.Contradiction.{zero_one}
 use Rattle.model.proofs.CountLaws.{count_less, count_before}
 use Rattle.theory.proofs.LinePlaces.{malformed_place, one_number}
 use Rattle.text.proofs.ReadOutcome.{fit}
+use Rattle.std.specs.Prelude.{Err}
 
 -- the tests before the lines give other numbers
-by_lines : (text : List ℕ) (old : Buffers) (k : ℕ) → reading.Refused (MalformedLine k) ≡ counts (read_outcome text old)
-    → reading.Refused (MalformedLine k) ≡ counts (read_text text)
+by_lines : (text : List ℕ) (old : Buffers) (k : ℕ) → Err (MalformedLine k) ≡ counts (read_outcome text old)
+    → Err (MalformedLine k) ≡ counts (read_text text)
 unfolding read_outcome read_refusal
 by_lines text old k p = go (fit old) refl (leb (length text) text_limit) refl
   where
     go : (f : Bool) → fit old ≡ f → (b : Bool) → leb (length text) text_limit ≡ b
-        → reading.Refused (MalformedLine k) ≡ counts (read_text text)
-    go false q b r = let wrong : reading.Refused (MalformedLine k) ≡ reading.Refused BufferLength = rw q at p in zero_one (cc)
-    go true q false r = let wrong : reading.Refused (MalformedLine k) ≡ reading.Refused TextLength = rw (q, r) at p in zero_one (cc)
+        → Err (MalformedLine k) ≡ counts (read_text text)
+    go false q b r = let wrong : Err (MalformedLine k) ≡ Err BufferLength = rw q at p in zero_one (cc)
+    go true q false r = let wrong : Err (MalformedLine k) ≡ Err TextLength = rw (q, r) at p in zero_one (cc)
     go true q true r = rw (q, r) at p
 
 pub read_place :
     {text : List ℕ} {old new : Buffers} {k : ℕ} →
-    Reads text old (reading.Refused (MalformedLine k)) new →
+    Reads text old (Err (MalformedLine k)) new →
     FirstMalformedNumber text k
 read_place {text} {old} {k = k} reads =
     lines (read_text text) refl (by_lines text old k reads.result)
   where
-    lines : (o : Read) → read_text text ≡ o → reading.Refused (MalformedLine k) ≡ counts o → FirstMalformedNumber text k
+    lines : (o : Read) → read_text text ≡ o → Err (MalformedLine k) ≡ counts o → FirstMalformedNumber text k
     lines (complete X) q p = zero_one (cc)
     lines (refused n) q p = let same : refused n ≡ refused (MalformedLine k) = cc in malformed_place text k (q ∙ same)
 

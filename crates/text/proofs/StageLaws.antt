@@ -1,143 +1,134 @@
--- How the reading of a text stands before a line and after it, by the stage that the reader holds. Assumes nothing.
+-- How the reading of a text stands before a line and after it, by the sheet so far. Assumes nothing.
 use Prim.Native.Nat.{ℕ, ◌≤◌, ◌<◌}
-use mathlib.Core.Path.{◌≡◌, refl, sym, ap, ◌∙◌}
+use mathlib.Core.Path.{◌≡◌, sym, ap, ◌∙◌}
 use mathlib.Core.Bool.{cond}
 use mathlib.Core.List.{List}
 use lib.ListN.{length}
+use Rattle.std.specs.declared.option.Option as answer
+use Rattle.std.specs.Borrow.{Bor}
+use Rattle.std.specs.Prelude.{Err, Some, None}
 use Rattle.model.specs.declared.refusal.Refusal.TheVariants.{MalformedLine}
-use Rattle.model.specs.declared.answers.Reading.TheVariants as reading
 use Rattle.model.specs.Text.{refused, read_text}
 use Rattle.model.specs.TextOutcomes.{Buffers}
 use Rattle.model.specs.LineNumbers.{line_number}
-use Rattle.text.specs.declared.line.Line.{Line}
-use Rattle.text.specs.declared.line.LineRead.TheVariants as lineread
-use Rattle.text.specs.declared.stage.Stage.{Stage}
-use Rattle.text.specs.declared.stage.Stage.TheVariants as stage
+use Rattle.text.specs.declared.line.LineRead.{LineRead}
+use Rattle.text.specs.declared.order.Sofar.{Sofar}
+use Rattle.text.specs.declared.reader.Lines.{Lines}
 use Rattle.text.specs.LineReadings.{ReadsLine}
+use Rattle.text.specs.LineReader.{AtStart, MovedOn}
 use Rattle.text.specs.Order.{meant}
 use Rattle.text.specs.Scratch.{Sized, Clear, stored, ReadsInto}
-use Rattle.text.specs.Stages.{taken, changed, Within, Takes}
+use Rattle.text.specs.Stages.{begun_with, Within, Takes}
 use Rattle.text.proofs.NumberLaws.{first_number}
-use Rattle.text.proofs.ReadLaws.{LineIs, NoLine, line_is, no_line, no_first, first_malformed}
-use Rattle.text.proofs.BeginLaws.{is_begun, not_begun, begun_not_start}
-use Rattle.text.proofs.TakeLaws.{is_taken, not_taken, taken_not_start, stores}
+use Rattle.text.proofs.ReadLaws.{LineIs, line_is, no_line, no_first, first_malformed}
+use Rattle.text.proofs.BeginLaws.{is_begun, not_begun}
+use Rattle.text.proofs.TakeLaws.{is_taken, not_taken, stores}
 use Rattle.text.proofs.ProgressLaws as progress
 use Rattle.text.proofs.ProgressLaws.{Progress, into_refused, begins, ends_malformed, ends_out_of_place, goes_further}
+use Rattle.model.specs.Answers.{counts_with}
 
--- the reading before the line that begins at a position: no line as yet, or a sheet that the arrays hold, with something left to read
-abbrev pub Stands : (t : List ℕ) → Buffers → (at k : ℕ) → Stage → Type 0
-Stands t b at k stage.Start = (at ≡ 0) × (Sized b × Clear b)
-Stands t b at k (stage.Sheet n m last) = (at < length t) × Progress t b n at k last m
-Stands t b at k stage.Malformed = ⊥
-
-pub record Reached (t : List ℕ) (b : Buffers) (at k : ℕ) (s : Stage) : Type 0 where
+-- the reading before the line that begins at a position, or at the text's end: a sheet that the arrays hold
+pub record Reached (t : List ℕ) (b : Buffers) (at k : ℕ) (s : Sofar) : Type 0 where
   pub numbered : k ≡ line_number t at
-  pub stands : Stands t b at k s
+  pub progress : Progress t b s.vertices at k s.last s.edges
 
--- the reading after a line that was taken
-pub record After (t : List ℕ) (b : Buffers) (at next k n m : ℕ) (last : Line) : Type 0 where
-  pub numbered : k ≡ line_number t next
-  pub further : at < next
-  pub inside : next ≤ length t
-  pub progress : Progress t b n next k last m
+-- The first line, by what its calls ensure: read at the reader's start, and a sheet begun with it
 
-pub starts : (t : List ℕ) (b : Buffers) → Sized b → Clear b → Reached t b 0 (line_number t 0) stage.Start
-starts t b sized clear = record { numbered = refl; stands = (refl, (sized, clear)) }
+module _
+    {text : Bor (List ℕ)}
+    {b : Buffers}
+    {lines : Lines}
+    {r : answer.Option LineRead}
+    (start : AtStart text lines)
+    (sized : Sized b)
+    (reads : ReadsLine lines.text.now lines.at lines.number r)
+  where
+    one : lines.number ≡ 1
+    one = start.numbered ∙ ap (line_number lines.text.now) start.at_is ∙ first_number lines.text.now
 
--- A line that doesn't read, or is not taken, is refused by its number
+    at_zero : ReadsLine text.now 0 1 r
+    at_zero = rw (start.text_is, start.at_is, one) at reads
 
-module _ (t : List ℕ) (at k : ℕ) (numbered : k ≡ line_number t at) where
-  -- the line at 0 is the first
-  one : at ≡ 0 → k ≡ 1
-  one z = numbered ∙ ap (line_number t) z ∙ first_number t
+    refused_first : read_text text.now ≡ refused (MalformedLine 1) → ReadsInto text.now (Err (MalformedLine lines.number)) b
+    refused_first p = into_refused text.now b (MalformedLine lines.number) (p ∙ ap (λ i. refused (MalformedLine i)) (sym one)) sized
 
-  first_line : (l : Line) (next k' : ℕ) → at ≡ 0 → LineIs t at k l next k' → LineIs t 0 1 l next k'
-  first_line l next k' z is = rw (z, one z) at is
+    pub first_unread : r ≡ None → ReadsInto text.now (Err (MalformedLine lines.number)) b
+    first_unread is =
+        let line = rw is at at_zero in
+        refused_first (first_malformed text.now (no_line text.now 0 1 (sym line.line_read)))
 
-  refused_first : at ≡ 0 → read_text t ≡ refused (MalformedLine 1) → read_text t ≡ refused (MalformedLine k)
-  refused_first z p = p ∙ ap (λ i. refused (MalformedLine i)) (sym (one z))
+    module _ {x : LineRead} {o : answer.Option Sofar} (is : r ≡ Some x) (begins_with : o ≡ begun_with x.line) where
+      first_read : ReadsLine text.now 0 1 (Some x)
+      first_read = rw is at at_zero
 
--- The line at which the reading stands
+      first_line : LineIs text.now 0 1 x.line x.next x.number
+      first_line = line_is text.now 0 1 x (sym first_read.line_read)
 
-module _ (t : List ℕ) (b : Buffers) (at k : ℕ) (s : Stage) (w : Reached t b at k s) where
+      pub first_unbegun : o ≡ None → ReadsInto text.now (Err (MalformedLine lines.number)) b
+      first_unbegun none =
+          refused_first (no_first text.now x.line x.next x.number first_line (not_begun x.line (sym none ∙ begins_with)))
+
+      pub first_begun : {s : Sofar} {lines' : Lines} → o ≡ Some s → Clear b → MovedOn lines x.next x.number lines'
+          → Reached text.now b lines'.at lines'.number s
+      first_begun {s} some-sheet clear moved =
+          let begun = is_begun x.line s (sym some-sheet ∙ begins_with) in
+          rw (moved.at_is, moved.number_is)
+          (record {
+            numbered = first_read.next_numbered;
+            progress = rw (begun.no_edge, begun.last_is) (begins text.now b x.line x.next x.number s.vertices first_line begun.first sized clear);
+          })
+
+-- A later line
+
+module _ {t : List ℕ} {b : Buffers} {at k : ℕ} {s : Sofar} (w : Reached t b at k s) where
   pub within : Within s
-  within = go s w.stands
-    where
-      go : (s : Stage) → Stands t b at k s → Within s
-      go stage.Start v = tt
-      go (stage.Sheet n m last) v = progress.within t b n at k last m v.1
-      go stage.Malformed v = tt
+  within = progress.within t b s.vertices at k s.last s.edges w.progress
 
-  sized : Sized b
-  sized = go s w.stands
-    where
-      go : (s : Stage) → Stands t b at k s → Sized b
-      go stage.Start v = v.1.0
-      go (stage.Sheet n m last) v = v.1.holds.sized
-      go stage.Malformed v = absurd v
+  pub finished : length t ≤ at → ReadsInto t (counts_with s.vertices s.edges) b
+  finished h = progress.finished t b s.vertices at k s.last s.edges w.progress h
 
-  pub unread : ReadsLine t at k lineread.Malformed → ReadsInto t (reading.Refused (MalformedLine k)) b
-  unread r = into_refused t b (MalformedLine k) (go s w.stands (no_line t at k (sym r.line_read))) sized
-    where
-      go : (s : Stage) → Stands t b at k s → NoLine t at → read_text t ≡ refused (MalformedLine k)
-      go stage.Start v none = refused_first t at k w.numbered v.0 (first_malformed t (rw v.0 at none))
-      go (stage.Sheet n m last) v none = ends_malformed t b n at k last m v.1 v.0 none
-      go stage.Malformed v none = absurd v
+  -- one turn of the reading, by what its calls ensure: the line read at the reader's position, taken, and the reader moved on
+  module _ {t' : List ℕ} {r : answer.Option LineRead} (text_is : t' ≡ t) (inside : at < length t) (reads : ReadsLine t' at k r) where
+    of_text : ReadsLine t at k r
+    of_text = rw (← text_is) reads
 
-  module _ (l : Line) (next k' : ℕ) (line : ReadsLine t at k (lineread.Line l next k')) (b' : Buffers) where
-    this_line : LineIs t at k l next k'
-    this_line = line_is t at k l next k' (sym line.line_read)
+    pub turn_unread : r ≡ None → ReadsInto t (Err (MalformedLine k)) b
+    turn_unread is =
+        let line = rw is at of_text in
+        into_refused t b (MalformedLine k)
+        (ends_malformed t b s.vertices at k s.last s.edges w.progress inside (no_line t at k (sym line.line_read)))
+        w.progress.holds.sized
 
-    pub never_start : Takes s l b stage.Start b' → ⊥
-    never_start r = go s w.stands r.result
-      where
-        go : (s : Stage) → Stands t b at k s → stage.Start ≡ taken s l b → ⊥
-        go stage.Start v p = begun_not_start l p
-        go (stage.Sheet n m last) v p = taken_not_start n m last l b p
-        go stage.Malformed v p = v
+    module _ {x : LineRead} (is : r ≡ Some x) where
+      line : ReadsLine t at k (Some x)
+      line = rw is at of_text
 
-    -- a line that is not taken changes nothing
-    unchanged : Takes s l b stage.Malformed b' → b' ≡ b
-    unchanged r = r.arrays ∙ go s r.result
-      where
-        go : (s : Stage) → stage.Malformed ≡ taken s l b → changed s l b ≡ b
-        go stage.Start p = refl
-        go (stage.Sheet n m last) p = ap (λ t. cond t (stored m (meant l) b) b) (not_taken n m last l b p)
-        go stage.Malformed p = refl
+      this_line : LineIs t at k x.line x.next x.number
+      this_line = line_is t at k x (sym line.line_read)
 
-    pub untaken : Takes s l b stage.Malformed b' → ReadsInto t (reading.Refused (MalformedLine k)) b'
-    untaken r = into_refused t b' (MalformedLine k) (go s w.stands r.result) (rw (unchanged r) sized)
-      where
-        go : (s : Stage) → Stands t b at k s → stage.Malformed ≡ taken s l b → read_text t ≡ refused (MalformedLine k)
-        go stage.Start v p =
-            refused_first t at k w.numbered v.0
-            (no_first t l next k' (first_line t at k w.numbered l next k' v.0 this_line) (not_begun l p))
-        go (stage.Sheet n m last) v p = ends_out_of_place t b n at k last m v.1 l next k' this_line (not_taken n m last l b p)
-        go stage.Malformed v p = absurd v
+      pub turn_further : {lines lines' : Lines} → MovedOn lines x.next x.number lines' → at < lines'.at
+      turn_further moved = rw moved.at_is this_line.further
 
-    pub onward : (n m : ℕ) (last : Line) → Takes s l b (stage.Sheet n m last) b' → After t b' at next k' n m last
-    onward n m last r =
-        record {
-          numbered = line.next_numbered;
-          further = this_line.further;
-          inside = this_line.inside;
-          progress = go s w.stands r;
-        }
-      where
-        go : (s : Stage) → Stands t b at k s → Takes s l b (stage.Sheet n m last) b' → Progress t b' n next k' last m
-        go stage.Start v r =
-            let begun = is_begun l n m last r.result in
-            rw (r.arrays, begun.no_edge, begun.last_is)
-            (begins t b l next k' n (first_line t at k w.numbered l next k' v.0 this_line) begun.first v.1.0 v.1.1)
-        go (stage.Sheet n₀ m₀ last₀) v r =
-            let more = is_taken n₀ m₀ last₀ l b n m last r.result in
-            rw (more.vertices_stay, more.last_is)
-            (goes_further t b n₀ at k last₀ m₀ v.1 l next k' this_line m b' more.may_stand_lem (stores n₀ m₀ last₀ l b b' n m last r))
-        go stage.Malformed v r = absurd v
+      module _ {b' : Buffers} {o : answer.Option Sofar} (takes : Takes s x.line b o b') where
+        -- a line that is not taken changes nothing
+        pub turn_untaken : o ≡ None → ReadsInto t (Err (MalformedLine k)) b'
+        turn_untaken none =
+            let misplaced = not_taken s x.line b (sym none ∙ takes.result) in
+            let unchanged : b' ≡ b = takes.arrays ∙ ap (λ t. cond t (stored s.edges (meant x.line) b) b) misplaced in
+            into_refused t b' (MalformedLine k)
+            (ends_out_of_place t b s.vertices at k s.last s.edges w.progress x.line x.next x.number this_line misplaced)
+            (rw unchanged w.progress.holds.sized)
 
-module _ (t : List ℕ) (b : Buffers) (at next k n m : ℕ) (last : Line) (w : After t b at next k n m last) where
-  pub finished : length t ≤ next → ReadsInto t (reading.Counts n m) b
-  finished h = progress.finished t b n next k last m w.progress h
-
-  pub goes_on : next < length t → Reached t b next k (stage.Sheet n m last)
-  goes_on h = record { numbered = w.numbered; stands = (h, w.progress) }
+        pub turn_moved : {s' : Sofar} {lines lines' : Lines} → o ≡ Some s' → MovedOn lines x.next x.number lines'
+            → Reached t b' lines'.at lines'.number s'
+        turn_moved {s'} sheet moved =
+            let takes' = rw sheet at takes in
+            let more = is_taken s x.line b s' takes'.result in
+            rw (moved.at_is, moved.number_is)
+            (record {
+              numbered = line.next_numbered;
+              progress =
+                  rw (more.vertices_stay, more.last_is)
+                  (goes_further t b s.vertices at k s.last s.edges w.progress x.line x.next x.number this_line s'.edges b' more.may_stand_lem
+                  (stores s x.line b b' s' takes'));
+            })

@@ -9,12 +9,9 @@ use mathlib.Core.Option.{none, some}
 use borrow.Author.Tests.{leb-true, le-leb}
 use lib.ListN.{length, take, drop}
 use lib.Seq.{take_at}
+use Rattle.model.specs.declared.answers.Counts.{Counts}
 use Rattle.model.specs.declared.refusal.Refusal.{Refusal}
 use Rattle.model.specs.declared.refusal.Refusal.TheVariants.{TextLength, TextBuffer}
-use Rattle.model.specs.declared.answers.Reading.{Reading}
-use Rattle.model.specs.declared.answers.Reading.TheVariants as reading
-use Rattle.model.specs.declared.answers.Written.{Written}
-use Rattle.model.specs.declared.answers.Written.TheVariants as written
 use Rattle.model.specs.Board.{board_of, edges, Sheet, sheet_of, ValidSheet, vertex_limit, edge_limit}
 use Rattle.model.specs.Refusals.{Test, refusal_of, sheet_rules}
 use Rattle.model.specs.Outcomes.{answer}
@@ -28,6 +25,8 @@ use Rattle.board.proofs.Validity.{sheet_passes, passes_sheet}
 use Rattle.text.specs.Scratch.{Sized}
 use Rattle.text.proofs.ReadOutcome.{sized_fits, by_lines}
 use Rattle.text.proofs.WriteOutcome.{text_rules, write_tests}
+use Rattle.model.specs.Answers.{Reading, Written, counts_with}
+use Rattle.std.specs.Prelude.{Ok, Err}
 
 -- The sheet that is in the reader's buffers: as many entries of each as the counts say.
 abbrev pub sheet_in : ℕ → ℕ → Buffers → Sheet
@@ -36,18 +35,18 @@ sheet_in n m b =
 
 -- Read back: both counts are those of X, and its entries stand in front in each buffer, which leaves X in them.
 pub record ReadBack (X : Sheet) (old : Buffers) (r : Reading) (new : Buffers) : Type 0 where
-  pub both_counts : r ≡ reading.Counts X.board.vertices (edges X.board)
+  pub both_counts : r ≡ counts_with X.board.vertices (edges X.board)
   pub buffers_back : new ≡ filled (complete X) old
   pub sheet_back : sheet_in X.board.vertices (edges X.board) new ≡ X
 
 -- Written back: the byte count is the text's, and the text stands in front in the buffer.
 pub record WrittenBack (text buffer : List ℕ) (r : Written) (buffer' : List ℕ) : Type 0 where
-  pub byte_count : r ≡ written.Bytes (length text)
+  pub byte_count : r ≡ Ok (length text)
   pub text_back : buffer' ≡ over text buffer
 
 -- Writing
 
-bytes_or_refused : {A : Type 0} {n : ℕ} {f : Refusal} → written.Bytes n ≡ written.Refused f → A
+bytes_or_refused : {A : Type 0} {n : ℕ} {f : Refusal} → Ok n ≡ Err f → A
 bytes_or_refused p = zero_one (cc)
 
 -- what passes every test of the writer
@@ -86,7 +85,7 @@ pub valid_written :
 unfolding write_answer
 valid_written X buffer v within room w =
     let none-fails = passed_write X buffer (record { valid = v; within = within; room = room }) in
-    let answers = w.result ∙ ap (λ t. answer t written.Refused (written.Bytes (length (text_of X)))) none-fails in
+    let answers = w.result ∙ ap (λ t. answer t Err (Ok (length (text_of X)))) none-fails in
     record { byte_count = answers; text_back = w.text_written ∙ ap (λ a. written_or a (over (text_of X) buffer) buffer) answers }
 
 -- A byte count is answered only where every test passes, and it is the text's.
@@ -95,13 +94,13 @@ record WroteText (X : Sheet) (buffer : List ℕ) (n : ℕ) (buffer' : List ℕ) 
   count : n ≡ length (text_of X)
   front : buffer' ≡ over (text_of X) buffer
 
-wrote_text : (X : Sheet) (buffer : List ℕ) (n : ℕ) (buffer' : List ℕ) → Writes X buffer (written.Bytes n) buffer'
+wrote_text : (X : Sheet) (buffer : List ℕ) (n : ℕ) (buffer' : List ℕ) → Writes X buffer (Ok n) buffer'
     → WroteText X buffer n buffer'
 unfolding write_answer
 wrote_text X buffer n buffer' w = go (write_refusal X buffer) refl w.result
   where
     go : (t : Test) → write_refusal X buffer ≡ t
-        → written.Bytes n ≡ answer t written.Refused (written.Bytes (length (text_of X))) → WroteText X buffer n buffer'
+        → Ok n ≡ answer t Err (Ok (length (text_of X))) → WroteText X buffer n buffer'
     go none e p = record { passed = write_passed X buffer e; count = cc; front = w.text_written }
     go (some f) e p = bytes_or_refused p
 
@@ -129,7 +128,7 @@ read_back X text old v p w =
 -- What was written is read back: a byte count is answered only for a valid sheet whose text is within the limit.
 pub write_then_read :
     {X : Sheet} {buffer buffer' : List ℕ} {n : ℕ} {old new : Buffers} {r : Reading} →
-    Writes X buffer (written.Bytes n) buffer' →
+    Writes X buffer (Ok n) buffer' →
     Sized old →
     Reads (take n buffer') old r new →
     ReadBack X old r new
@@ -161,18 +160,18 @@ record ReadSheet (text : List ℕ) (old : Buffers) : Type 0 where
   reads : read_text text ≡ complete sheet
   outcome : read_outcome text old ≡ complete sheet
 
-counts_or_refused : {A : Type 0} {n m : ℕ} {f : Refusal} → reading.Counts n m ≡ reading.Refused f → A
+counts_or_refused : {A : Type 0} {n m : ℕ} {f : Refusal} → counts_with n m ≡ Err f → A
 counts_or_refused p = zero_one (cc)
 
 pub read_within : (text : List ℕ) (old : Buffers) → read_refusal text old ≡ none → length text ≤ text_limit
 unfolding read_refusal
 read_within text old p = leb-true _ _ (unless_passes _ TextLength (each_passes (read_rules text old) p).1.0)
 
-read_sheet : (text : List ℕ) (old : Buffers) (n m : ℕ) → reading.Counts n m ≡ counts (read_outcome text old) → ReadSheet text old
+read_sheet : (text : List ℕ) (old : Buffers) (n m : ℕ) → counts_with n m ≡ counts (read_outcome text old) → ReadSheet text old
 unfolding read_outcome
 read_sheet text old n m p = tests (read_refusal text old) refl p
   where
-    lines : (o : Read) → read_refusal text old ≡ none → read_text text ≡ o → reading.Counts n m ≡ counts o → ReadSheet text old
+    lines : (o : Read) → read_refusal text old ≡ none → read_text text ≡ o → counts_with n m ≡ counts o → ReadSheet text old
     lines (complete Y) e q c =
         record {
           sheet = Y;
@@ -182,12 +181,15 @@ read_sheet text old n m p = tests (read_refusal text old) refl p
         }
     lines (refused f) e q c = counts_or_refused c
 
-    tests : (t : Test) → read_refusal text old ≡ t → reading.Counts n m ≡ counts (answer t refused (read_text text)) → ReadSheet text old
+    tests : (t : Test) → read_refusal text old ≡ t → counts_with n m ≡ counts (answer t refused (read_text text)) → ReadSheet text old
     tests none e c = lines (read_text text) e refl c
     tests (some f) e c = counts_or_refused c
 
-same_counts : {n m k l : ℕ} → reading.Counts n m ≡ reading.Counts k l → (n ≡ k) × (m ≡ l)
-same_counts p = (cc, cc)
+same_record : {x y : Counts} → counts_with x.vertices x.edges ≡ counts_with y.vertices y.edges → x ≡ y
+same_record p = cc
+
+same_counts : {n m k l : ℕ} → counts_with n m ≡ counts_with k l → (n ≡ k) × (m ≡ l)
+same_counts p = let same = same_record p in (ap (λ c. c.vertices) same, ap (λ c. c.edges) same)
 
 -- What the reader leaves: its text is the one that was read, and is within the limit.
 pub record Left (text : List ℕ) (X : Sheet) : Type 0 where
@@ -197,7 +199,7 @@ pub record Left (text : List ℕ) (X : Sheet) : Type 0 where
 
 pub read_leaves :
     {text : List ℕ} {old new : Buffers} {n m : ℕ} →
-    Reads text old (reading.Counts n m) new →
+    Reads text old (counts_with n m) new →
     Left text (sheet_in n m new)
 read_leaves {text} {old} {new} {n} {m} reads =
     let s = read_sheet text old n m reads.result in
@@ -211,7 +213,7 @@ read_leaves {text} {old} {new} {n} {m} reads =
 -- Both counts are within the limits.
 pub read_counts :
     {text : List ℕ} {old new : Buffers} {n m : ℕ} →
-    Reads text old (reading.Counts n m) new →
+    Reads text old (counts_with n m) new →
     (n ≤ vertex_limit) × (m ≤ edge_limit)
 read_counts {text} {old} {n = n} {m = m} reads =
     let s = read_sheet text old n m reads.result in
@@ -222,7 +224,7 @@ read_counts {text} {old} {n = n} {m = m} reads =
 -- What was read is written back: counts are answered only for a text within the limit.
 pub read_then_write :
     {text buffer buffer' : List ℕ} {old new : Buffers} {n m : ℕ} {r : Written} →
-    Reads text old (reading.Counts n m) new →
+    Reads text old (counts_with n m) new →
     length text ≤ length buffer →
     Writes (sheet_in n m new) buffer r buffer' →
     WrittenBack text buffer r buffer'

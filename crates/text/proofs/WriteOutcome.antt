@@ -11,17 +11,17 @@ use lib.ListN.{length, take, drop}
 use lib.Seq.{sets-eq, take_at}
 use Rattle.board.proofs.CopyLaws.{copied}
 use Rattle.board.proofs.Validity.{sheet_passes}
-use Rattle.board.proofs.Calls.{sheet_then}
 use Rattle.model.specs.declared.refusal.Refusal.{Refusal}
 use Rattle.model.specs.declared.refusal.Refusal.TheVariants.{TextLength, TextBuffer}
-use Rattle.model.specs.declared.answers.Written.TheVariants as written
 use Rattle.model.specs.Sums.{or_else}
 use Rattle.model.specs.Board.{Sheet, ValidSheet}
 use Rattle.model.specs.Refusals.{Rule, refusal_of, sheet_rules}
 use Rattle.model.specs.Text.{text_of}
 use Rattle.model.specs.TextOutcomes.{text_limit, text_rule, text_buffer_rule, write_refusal, write_answer, Writes}
+use Rattle.model.proofs.RuleLists.{refusal_append}
 use Rattle.text.specs.Printing.{Puts, sheet_bytes}
 use Rattle.text.proofs.PrintLaws.{text_bytes}
+use Rattle.std.specs.Prelude.{Ok, Err}
 
 -- the tests of the sheet, then those of the text
 module _ (X : Sheet) (buffer : List ℕ) where
@@ -30,14 +30,14 @@ module _ (X : Sheet) (buffer : List ℕ) where
 
   pub write_tests : write_refusal X buffer ≡ or_else (refusal_of (sheet_rules X true)) (refusal_of text_rules)
   unfolding write_refusal
-  write_tests = sheet_then X true text_rules
+  write_tests = refusal_append (sheet_rules X true) text_rules
 
   -- a refusal writes nothing
-  nothing_written : (n : Refusal) → write_refusal X buffer ≡ some n → Writes X buffer (written.Refused n) buffer
+  nothing_written : (n : Refusal) → write_refusal X buffer ≡ some n → Writes X buffer (Err n) buffer
   unfolding write_answer
   nothing_written n p = record { result = rw p; text_written = refl }
 
-  pub sheet_refused : (n : Refusal) → refusal_of (sheet_rules X true) ≡ some n → Writes X buffer (written.Refused n) buffer
+  pub sheet_refused : (n : Refusal) → refusal_of (sheet_rules X true) ≡ some n → Writes X buffer (Err n) buffer
   sheet_refused n p = nothing_written n (write_tests ∙ rw p)
 
   module _ (passes : refusal_of (sheet_rules X true) ≡ none) where
@@ -52,14 +52,14 @@ module _ (X : Sheet) (buffer : List ℕ) where
       is_long : length (text_of X) ≡ k
       is_long = ap length (sym is_text) ∙ sym long
 
-      pub too_long : text_limit < k → Writes X buffer (written.Refused TextLength) buffer
+      pub too_long : text_limit < k → Writes X buffer (Err TextLength) buffer
       too_long h = nothing_written TextLength (write_tests ∙ rw (passes, is_long, lt-leb k text_limit h))
 
-      pub no_room : k ≤ text_limit → length buffer < k → Writes X buffer (written.Refused TextBuffer) buffer
+      pub no_room : k ≤ text_limit → length buffer < k → Writes X buffer (Err TextBuffer) buffer
       no_room short h = nothing_written TextBuffer (write_tests ∙ rw (passes, is_long, le-leb k text_limit short, lt-leb k (length buffer) h))
 
       pub all_written : k ≤ text_limit → k ≤ length buffer → (lines buffer' : List ℕ) → take k lines ≡ sheet_bytes X
-          → buffer' ≡ copied lines buffer k → Writes X buffer (written.Bytes k) buffer'
+          → buffer' ≡ copied lines buffer k → Writes X buffer (Ok k) buffer'
       unfolding write_answer
       all_written short room lines buffer' front is =
           record {

@@ -4,7 +4,12 @@ use Rattle.std.specs.Prelude.{ℕ, ◌+◌, ◌*◌, ◌≤◌, ◌<◌, ◌≡�
 use Rattle.model.specs.Board.{Sheet, edges, vertex_limit, edge_limit}
 use Rattle.model.specs.Text.{Line, V_line, E_line, O_line, S_line, X_line, Read, complete, refused, read_text}
 use Rattle.model.specs.TextOutcomes.{Buffers, buffers_of, counts}
-use Rattle.model.specs.declared.answers.Reading.{Reading}
+use Rattle.model.specs.Answers.{Reading}
+use Rattle.text.specs.declared.store.Arrays.{Arrays}
+
+-- the arrays as the lent buffers are taken, as one value
+abbrev pub buffers_in : Arrays → Buffers
+buffers_in a = buffers_of a.ends a.marks a.opened a.syndrome a.loss
 
 -- there is room for the largest sheet
 pub record Sized (b : Buffers) : Type 0 where

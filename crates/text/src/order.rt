@@ -7,21 +7,19 @@ use crate::line::Line;
 use model::limits::{EDGES, VERTICES};
 use model::numbers::{Edge, Vertex};
 
+// The sheet that the lines so far make: of so many vertices and so far so many edges, with the last of them.
+#[derive(Clone, Copy)]
+pub struct Sofar {
+    pub vertices: u16,
+    pub edges: u16,
+    pub last: Line,
+}
+
 // `E` lines follow the `V` line and one another.
 fn edge_may_follow(last: Line) -> bool
     ensures { result ≡ edge_may_follow (meant last) }
 {
-    match last {
-        Line::Vertices(_) => true,
-        Line::Edge {
-            first: _,
-            second: _,
-            mark: _,
-        } => true,
-        Line::Open(_) => false,
-        Line::Syndrome(_) => false,
-        Line::Lost(_) => false,
-    }
+    matches!(last, Line::Vertices(_) | Line::Edge { .. })
 }
 
 // `O` lines follow those, rising.
@@ -29,12 +27,7 @@ fn open_may_follow(last: Line, vertex: Vertex) -> bool
     ensures { result ≡ open_may_follow (meant last) vertex.0 }
 {
     match last {
-        Line::Vertices(_) => true,
-        Line::Edge {
-            first: _,
-            second: _,
-            mark: _,
-        } => true,
+        Line::Vertices(_) | Line::Edge { .. } => true,
         Line::Open(v) => v.0 < vertex.0,
         Line::Syndrome(_) => false, // `S` lines come later
         Line::Lost(_) => false,
@@ -46,13 +39,7 @@ fn syndrome_may_follow(last: Line, vertex: Vertex) -> bool
     ensures { result ≡ syndrome_may_follow (meant last) vertex.0 }
 {
     match last {
-        Line::Vertices(_) => true,
-        Line::Edge {
-            first: _,
-            second: _,
-            mark: _,
-        } => true,
-        Line::Open(_) => true,
+        Line::Vertices(_) | Line::Edge { .. } | Line::Open(_) => true,
         Line::Syndrome(v) => v.0 < vertex.0,
         Line::Lost(_) => false, // `X` lines come last
     }
@@ -63,14 +50,7 @@ fn loss_may_follow(last: Line, edge: Edge) -> bool
     ensures { result ≡ loss_may_follow (meant last) edge.0 }
 {
     match last {
-        Line::Vertices(_) => true,
-        Line::Edge {
-            first: _,
-            second: _,
-            mark: _,
-        } => true,
-        Line::Open(_) => true,
-        Line::Syndrome(_) => true,
+        Line::Vertices(_) | Line::Edge { .. } | Line::Open(_) | Line::Syndrome(_) => true,
         Line::Lost(e) => e.0 < edge.0,
     }
 }
@@ -79,7 +59,7 @@ fn loss_may_follow(last: Line, edge: Edge) -> bool
 fn edge_fits(first: Vertex, second: Vertex, mark: u16, vertices: u16, edges: u16) -> bool
     ensures { result ≡ edge_fits vertices edges first.0 second.0 mark }
 {
-    ((edges as usize) < EDGES) & (first.0 < vertices) & (second.0 < vertices) & (mark <= 3)
+    (edges as usize) < EDGES && first.0 < vertices && second.0 < vertices && mark <= 3
 }
 
 // A syndrome vertex is in range, and not open.
@@ -87,17 +67,13 @@ fn lit_fits(vertex: Vertex, vertices: u16, opened: &[u8; VERTICES]) -> bool
     requires { vertices ≤ vertex_limit }
     ensures { result ≡ lit_fits vertices opened.now vertex.0 }
 {
-    let v = vertex.0;
-    if vertices <= v {
-        return false;
-    }
-    opened[v as usize] != 1
+    vertex.0 < vertices && opened[vertex.0 as usize] != 1
 }
 
-// May a line stand after the last one, on a sheet of so many vertices, so far so many edges, and these open bytes?
-pub fn may_stand(last: Line, line: Line, vertices: u16, edges: u16, opened: &[u8; VERTICES]) -> bool
-    requires { vertices ≤ vertex_limit }
-    ensures { result ≡ may_stand vertices edges opened.now (meant last) (meant line) }
+// May a line stand after those of the sheet so far, with these open bytes?
+pub fn may_stand(sofar: Sofar, line: Line, opened: &[u8; VERTICES]) -> bool
+    requires { sofar.vertices ≤ vertex_limit }
+    ensures { result ≡ may_stand sofar.vertices sofar.edges opened.now (meant sofar.last) (meant line) }
 {
     match line {
         Line::Vertices(_) => false,
@@ -105,9 +81,14 @@ pub fn may_stand(last: Line, line: Line, vertices: u16, edges: u16, opened: &[u8
             first,
             second,
             mark,
-        } => { edge_may_follow(last) & edge_fits(first, second, mark, vertices, edges) }
-        Line::Open(v) => open_may_follow(last, v) & (v.0 < vertices),
-        Line::Syndrome(v) => syndrome_may_follow(last, v) & lit_fits(v, vertices, opened),
-        Line::Lost(e) => loss_may_follow(last, e) & (e.0 < edges),
+        } => {
+            edge_may_follow(sofar.last)
+                && edge_fits(first, second, mark, sofar.vertices, sofar.edges)
+        }
+        Line::Open(v) => open_may_follow(sofar.last, v) && v.0 < sofar.vertices,
+        Line::Syndrome(v) => {
+            syndrome_may_follow(sofar.last, v) && lit_fits(v, sofar.vertices, opened)
+        }
+        Line::Lost(e) => loss_may_follow(sofar.last, e) && e.0 < sofar.edges,
     }
 }

@@ -78,10 +78,8 @@ pub fn put_listed(out: &mut [u8], at: usize, letter: u8, bytes: &[u8]) -> usize
     ensures { Puts (listed_bytes letter (ones bytes.now) (length bytes.now)) out.old at result out.new }
 {
     let mut next = at;
-    let mut i = 0;
-    while i < bytes.len() {
-        next = put_place(out, next, letter, i, bytes[i]);
-        i += 1;
+    for (i, byte) in bytes.iter().enumerate() {
+        next = put_place(out, next, letter, i, *byte);
     }
     next
 }

@@ -13,33 +13,35 @@ pub(crate) struct Lines<'a> {
     pub number: usize,
 }
 
-// A reader before the first line, which has number 1.
-pub fn lines_of<'a>(text: &'a [u8]) -> Lines<'a>
-    ensures { AtStart text.entry result }
-{
-    Lines {
-        text,
-        at: 0,
-        number: 1,
+impl<'a> Lines<'a> {
+    // A reader before the first line, which has number 1.
+    pub fn of(text: &'a [u8]) -> Lines<'a>
+        ensures { AtStart text.entry result }
+    {
+        Lines {
+            text,
+            at: 0,
+            number: 1,
+        }
     }
-}
 
-// The next line, the position after it and the number of the line that begins there.
-pub fn next_line<'a>(lines: Lines<'a>) -> LineRead
-    requires { lines.number ≡ line_number lines.text.now lines.at }
-    ensures { ReadsLine lines.entry.text.now lines.entry.at lines.entry.number result }
-{
-    line_at(lines.text, lines.at, lines.number)
-}
+    // The next line, the position after it and the number of the line that begins there.
+    pub fn next_line(self) -> Option<LineRead>
+        requires { self.number ≡ line_number self.text.now self.at }
+        ensures { ReadsLine self.entry.text.now self.entry.at self.entry.number result }
+    {
+        line_at(self.text, self.at, self.number)
+    }
 
-// The same reader before a later line, which begins at a position and has this number.
-pub fn moved_on<'a>(lines: Lines<'a>, at: usize, number: usize) -> Lines<'a>
-    requires { number ≡ line_number lines.text.now at }
-    ensures { MovedOn lines.entry at number result }
-{
-    Lines {
-        text: lines.text,
-        at,
-        number,
+    // The same reader before a later line, which begins at a position and has this number.
+    pub fn moved_on(self, at: usize, number: usize) -> Lines<'a>
+        requires { number ≡ line_number self.text.now at }
+        ensures { MovedOn self.entry at number result }
+    {
+        Lines {
+            text: self.text,
+            at,
+            number,
+        }
     }
 }

@@ -1,58 +1,43 @@
 ghost use Rattle.model.specs.TextOutcomes.{buffers_of, Reads};
-ghost use Rattle.text.specs.Scratch.{Sized, Clear, ReadsInto};
+ghost use Rattle.text.specs.Scratch.{buffers_in, Sized, Clear, ReadsInto};
 
-use crate::line::LineRead;
-use crate::reader::{lines_of, moved_on, next_line};
-use crate::stage::{Stage, take_line};
-use board::copy::{copy_bytes, copy_numbers};
-use model::answers::Reading;
+use crate::reader::Lines;
+use crate::stage::{begin, take_line};
+use crate::store::Arrays;
+use board::copy::copy_front;
+use model::answers::Counts;
 use model::limits::{EDGES, ENDS, TEXT, VERTICES};
 use model::refusal::Refusal;
 
-// Reads a text line by line into arrays, of which those of the open bytes and of the syndrome are all 0. A line that doesn't read ends the
-// reading there.
-fn read_lines(
-    text: &[u8],
-    ends: &mut [u16; ENDS],
-    marks: &mut [u8; EDGES],
-    opened: &mut [u8; VERTICES],
-    syndrome: &mut [u8; VERTICES],
-    loss: &mut [u8; EDGES],
-) -> Reading
-    requires sized { Sized (buffers_of ends.old marks.old opened.old syndrome.old loss.old) }
-    requires clear { Clear (buffers_of ends.old marks.old opened.old syndrome.old loss.old) }
-    ensures { ReadsInto text.now result (buffers_of ends.new marks.new opened.new syndrome.new loss.new) }
+// Reads a text line by line into arrays, of which those of the open bytes and of the syndrome are all 0. The first line begins the sheet,
+// and each later one is taken onto it; a line that doesn't read, or may not stand there, ends the reading.
+fn read_lines(text: &[u8], arrays: &mut Arrays) -> Result<Counts, Refusal>
+    requires sized { Sized (buffers_in arrays.old) }
+    requires clear { Clear (buffers_in arrays.old) }
+    ensures { ReadsInto text.now result (buffers_in arrays.new) }
 {
-    let mut lines = lines_of(text);
-    let mut stage = Stage::Start;
-    loop {
-        let LineRead::Line { line, next, number } = next_line(lines) else {
-            return Reading::Refused(Refusal::MalformedLine(lines.number));
+    let mut lines = Lines::of(text);
+    let Some(first) = lines.next_line() else {
+        return Err(Refusal::MalformedLine(lines.number));
+    };
+    let Some(mut sofar) = begin(first.line) else {
+        return Err(Refusal::MalformedLine(lines.number));
+    };
+    lines = lines.moved_on(first.next, first.number);
+    while lines.at < text.len() {
+        let Some(read) = lines.next_line() else {
+            return Err(Refusal::MalformedLine(lines.number));
         };
-        stage = take_line(stage, line, ends, marks, opened, syndrome, loss);
-        let Stage::Sheet {
-            vertices,
-            edges,
-            last: _,
-        } = stage
-        else {
-            return Reading::Refused(Refusal::MalformedLine(lines.number));
+        let Some(sheet) = take_line(sofar, read.line, arrays) else {
+            return Err(Refusal::MalformedLine(lines.number));
         };
-        lines = moved_on(lines, next, number);
-        if text.len() <= lines.at {
-            return Reading::Counts {
-                vertices: vertices as usize,
-                edges: edges as usize,
-            };
-        }
+        sofar = sheet;
+        lines = lines.moved_on(read.next, read.number);
     }
-}
-
-// Of how many vertices and edges the entries are filled in.
-#[derive(Clone, Copy)]
-struct Filled {
-    vertices: usize,
-    edges: usize,
+    Ok(Counts {
+        vertices: sofar.vertices as usize,
+        edges: sofar.edges as usize,
+    })
 }
 
 // Reads a text into the lent buffers and answers with both counts. It is read into arrays first, and then as many entries are copied as
@@ -64,45 +49,36 @@ pub fn read(
     opened: &mut [u8],
     syndrome: &mut [u8],
     loss: &mut [u8],
-) -> Reading
+) -> Result<Counts, Refusal>
     ensures { Reads text.now (buffers_of ends.old marks.old opened.old syndrome.old loss.old)
         result (buffers_of ends.new marks.new opened.new syndrome.new loss.new) }
 {
+    // `&`, so that the five tests are one value, about which the proof has one fact; `&&` would be five branches.
     let fit = (ends.len() == ENDS)
         & (marks.len() == EDGES)
         & (opened.len() == VERTICES)
         & (syndrome.len() == VERTICES)
         & (loss.len() == EDGES);
     if !fit {
-        return Reading::Refused(Refusal::BufferLength);
+        return Err(Refusal::BufferLength);
     }
     if TEXT < text.len() {
-        return Reading::Refused(Refusal::TextLength);
+        return Err(Refusal::TextLength);
     }
-    let mut new_ends = [0u16; ENDS];
-    let mut new_marks = [0u8; EDGES];
-    let mut new_opened = [0u8; VERTICES];
-    let mut new_syndrome = [0u8; VERTICES];
-    let mut new_loss = [0u8; EDGES];
-    let reading = read_lines(
-        text,
-        &mut new_ends,
-        &mut new_marks,
-        &mut new_opened,
-        &mut new_syndrome,
-        &mut new_loss,
-    );
-    let filled = match reading {
-        Reading::Counts { vertices, edges } => Filled { vertices, edges },
-        Reading::Refused(_) => Filled {
-            vertices: 0,
-            edges: 0,
-        },
+    let mut new = Arrays {
+        ends: [0; ENDS],
+        marks: [0; EDGES],
+        opened: [0; VERTICES],
+        syndrome: [0; VERTICES],
+        loss: [0; EDGES],
     };
-    copy_numbers(&new_ends, 2 * filled.edges, ends);
-    copy_bytes(&new_marks, filled.edges, marks);
-    copy_bytes(&new_opened, filled.vertices, opened);
-    copy_bytes(&new_syndrome, filled.vertices, syndrome);
-    copy_bytes(&new_loss, filled.edges, loss);
-    reading
+    let reading = read_lines(text, &mut new);
+    let counts = reading?; // a refusal fills nothing
+    let Counts { vertices, edges } = counts;
+    copy_front(&new.ends, 2 * edges, ends);
+    copy_front(&new.marks, edges, marks);
+    copy_front(&new.opened, vertices, opened);
+    copy_front(&new.syndrome, vertices, syndrome);
+    copy_front(&new.loss, edges, loss);
+    Ok(counts)
 }

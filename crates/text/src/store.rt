@@ -1,24 +1,24 @@
-ghost use Rattle.model.specs.TextOutcomes.{buffers_of};
 ghost use Rattle.text.specs.Order.{meant};
-ghost use Rattle.text.specs.Scratch.{Storable, Stores};
+ghost use Rattle.text.specs.Scratch.{buffers_in, Storable, Stores};
 
 use crate::line::Line;
 use model::limits::{EDGES, ENDS, VERTICES};
 use model::numbers::Edge;
 
+// The arrays into which a text is read: one for each lent buffer.
+#[derive(Drop)]
+pub struct Arrays {
+    pub ends: [u16; ENDS],
+    pub marks: [u8; EDGES],
+    pub opened: [u8; VERTICES],
+    pub syndrome: [u8; VERTICES],
+    pub loss: [u8; EDGES],
+}
+
 // Puts a line that may stand into the arrays of the sheet read so far, and hands back the edge count.
-pub fn store(
-    line: Line,
-    edges: u16,
-    ends: &mut [u16; ENDS],
-    marks: &mut [u8; EDGES],
-    opened: &mut [u8; VERTICES],
-    syndrome: &mut [u8; VERTICES],
-    loss: &mut [u8; EDGES],
-) -> u16
+pub fn store(line: Line, edges: u16, arrays: &mut Arrays) -> u16
     requires { Storable edges (meant line) }
-    ensures { Stores edges (meant line) (buffers_of ends.old marks.old opened.old syndrome.old loss.old)
-        result (buffers_of ends.new marks.new opened.new syndrome.new loss.new) }
+    ensures { Stores edges (meant line) (buffers_in arrays.old) result (buffers_in arrays.new) }
 {
     match line {
         Line::Vertices(_) => edges,
@@ -30,22 +30,22 @@ pub fn store(
             let edge = Edge(edges); // edges are numbered as they come
             let e = edge.0 as usize;
             let i = 2 * e;
-            ends[i] = first.0;
-            ends[i + 1] = second.0;
-            marks[e] = mark as u8;
-            loss[e] = 0;
+            arrays.ends[i] = first.0;
+            arrays.ends[i + 1] = second.0;
+            arrays.marks[e] = mark as u8;
+            arrays.loss[e] = 0;
             edges + 1
         }
         Line::Open(v) => {
-            opened[v.0 as usize] = 1;
+            arrays.opened[v.0 as usize] = 1;
             edges
         }
         Line::Syndrome(v) => {
-            syndrome[v.0 as usize] = 1;
+            arrays.syndrome[v.0 as usize] = 1;
             edges
         }
         Line::Lost(e) => {
-            loss[e.0 as usize] = 1;
+            arrays.loss[e.0 as usize] = 1;
             edges
         }
     }

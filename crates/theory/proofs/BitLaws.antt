@@ -2,7 +2,7 @@
 use Prim.Native.Nat.{ℕ, zero, suc, ◌+◌, ◌*◌, ◌/◌, ◌%◌, ◌^◌, ◌≤◌, ◌<◌}
 use mathlib.Core.Path.{◌≡◌, refl, sym, ap, ap₂, ◌∙◌, subst}
 use mathlib.Core.Bool.{false}
-use native.Mathlib.Nat.{le_of_suc-le-suc, not-suc-le-zero, pow-succ', div-div-eq-div-mul, div-eq_of_lt}
+use native.Mathlib.Nat.{le_of_suc-le-suc, not-suc-le-zero, pow-succ', div-div-eq-div-mul, div-eq_of_lt, lt_of_lt_of_le}
 use native.Mathlib.Omega.{arith}
 use lib.Count.{ones, ones_step, ones-le}
 use lib.Pow.{pow_mono}
@@ -28,10 +28,7 @@ higher_bit x k = rw (pow-succ' 2 k, ← div-div-eq-div-mul x 2 (2 ^ k))
 
 -- a number of few bits has no higher ones
 pub no_higher : (x r k : ℕ) → x < 2 ^ r → r ≤ k → bit_of x k ≡ false
-no_higher x r k few h = rw (div-eq_of_lt (few_more few (pow_mono h)))
-  where
-    few_more : {a b : ℕ} → x < a → a ≤ b → x < b
-    few_more l m = omega arith
+no_higher x r k few h = rw (div-eq_of_lt (lt_of_lt_of_le few (pow_mono h)))
 
 -- half of it has one bit less
 pub half_below : (x d : ℕ) → x < 2 ^ suc d → x / 2 < 2 ^ d

@@ -15,16 +15,7 @@ use borrow.Author.Tests.{leb-true}
 use lib.Dec.{leb}
 use Rattle.model.specs.declared.refusal.Refusal.{Refusal}
 use Rattle.model.specs.declared.refusal.Refusal.TheVariants.{BufferLength, TorusSide, RoundCount, PlanarSide, MalformedLine}
-use Rattle.model.specs.declared.answers.Decoded.TheVariants as decoded
-use Rattle.model.specs.declared.answers.RoundsDecoded.TheVariants as inRounds
 use Rattle.model.specs.declared.answers.Verdict.TheVariants as verdict
-use Rattle.model.specs.declared.answers.Distance.TheVariants as distance
-use Rattle.model.specs.declared.answers.Built.TheVariants as built
-use Rattle.model.specs.declared.answers.Reading.TheVariants as reading
-use Rattle.model.specs.declared.answers.Packed.TheVariants as packed
-use Rattle.model.specs.declared.answers.Lit.TheVariants as lit
-use Rattle.model.specs.declared.answers.Game.TheVariants as game
-use Rattle.model.specs.declared.answers.Trap.TheVariants as trap
 use Rattle.model.specs.Board.{Board, Sheet, vertex_limit}
 use Rattle.model.specs.Torus.{least_side, largest_side}
 use Rattle.model.specs.Planar.{least_planar, largest_planar, planar_vertices, planar_edges}
@@ -45,10 +36,14 @@ use Rattle.model.specs.WordRefusals.{pack_rules, pack_refusal, unpack_rules, unp
 use Rattle.model.specs.WordOutcomes.{pack_answer, lit_answer, list_answer, decode_packed_answer}
 use Rattle.model.specs.Precedence.{Applies, here, there, NoneApplies, Decides, Smallest, AnswersSmallest}
 use Rattle.model.proofs.Contradiction.{zero_one}
-use Rattle.model.proofs.Xor.{and_left, and_right, not_false_true}
+use Rattle.model.proofs.Xor.{and_left, and_right}
 use Rattle.model.proofs.RuleNumbers.{decode_numbers, verdict_numbers, distance_numbers, torus_numbers, planar_numbers, stack_numbers, faces_numbers, read_numbers, write_numbers, pack_numbers, unpack_numbers, lit_numbers, decode_packed_numbers, game_numbers, trap_numbers}
 use Rattle.theory.proofs.Precedence.{empty_applies, decides_exactly, earlier_kept, other_number}
 use Rattle.theory.proofs.SmallestNumber.{smallest_exactly, answers_smallest}
+use Rattle.model.specs.declared.answers.Verdict.TheVariants as verdict
+use Rattle.model.specs.Answers.{word_counts_with}
+use Rattle.std.specs.Prelude.{Ok, Err}
+use Rattle.std.proofs.lemmas.Bool.{true_from_ne_false}
 
 -- Decoding
 
@@ -58,28 +53,28 @@ unfolding decode_refusal
 decode_smallest X support correction = smallest_exactly (decode_numbers X support correction) refl
 
 pub decode_answers : (X : Sheet) (support correction : List ℕ) (q : Refusal) → Applies (decode_rules X support correction) q
-    → AnswersSmallest (decode_rules X support correction) decoded.Refused (decode_answer X support correction)
+    → AnswersSmallest (decode_rules X support correction) Err (decode_answer X support correction)
 unfolding decode_answer decode_refusal
-decode_answers X support correction = answers_smallest (decode_numbers X support correction) refl decoded.Refused (key_or_none X)
+decode_answers X support correction = answers_smallest (decode_numbers X support correction) refl Err (key_or_none X)
 
 -- Number 10 comes last.
-pub decode_last : (X : Sheet) (support correction : List ℕ) (v : ℕ) → decode_answer X support correction ≡ decoded.Refused (none_at v)
+pub decode_last : (X : Sheet) (support correction : List ℕ) (v : ℕ) → decode_answer X support correction ≡ Err (none_at v)
     → NoneApplies (decode_rules X support correction)
 unfolding decode_answer decode_refusal
 decode_last X support correction v =
-    other_number (decode_numbers X support correction) (none_at v) refl decoded.Refused (key_or_none X) (λ q e. cc)
+    other_number (decode_numbers X support correction) (none_at v) refl Err (key_or_none X) (λ q e. cc)
 
 -- In rounds decoding is tested alike.
 pub rounds_answers : (X : Sheet) (support correction : List ℕ) (q : Refusal) → Applies (decode_rules X support correction) q
-    → AnswersSmallest (decode_rules X support correction) inRounds.Refused (rounds_answer X support correction)
+    → AnswersSmallest (decode_rules X support correction) Err (rounds_answer X support correction)
 unfolding rounds_answer decode_refusal
-rounds_answers X support correction = answers_smallest (decode_numbers X support correction) refl inRounds.Refused (rounds_or_none X)
+rounds_answers X support correction = answers_smallest (decode_numbers X support correction) refl Err (rounds_or_none X)
 
-pub rounds_last : (X : Sheet) (support correction : List ℕ) (v : ℕ) → rounds_answer X support correction ≡ inRounds.Refused (none_at v)
+pub rounds_last : (X : Sheet) (support correction : List ℕ) (v : ℕ) → rounds_answer X support correction ≡ Err (none_at v)
     → NoneApplies (decode_rules X support correction)
 unfolding rounds_answer decode_refusal
 rounds_last X support correction v =
-    other_number (decode_numbers X support correction) (none_at v) refl inRounds.Refused (rounds_or_none X) (λ q e. cc)
+    other_number (decode_numbers X support correction) (none_at v) refl Err (rounds_or_none X) (λ q e. cc)
 
 -- The verdict
 
@@ -104,9 +99,9 @@ unfolding distance_refusal
 distance_smallest B shown = smallest_exactly (distance_numbers B shown) refl
 
 pub distance_answers : (B : Board) (shown : List ℕ) (q : Refusal) → Applies (distance_rules B shown) q
-    → AnswersSmallest (distance_rules B shown) distance.Refused (distance_answer B shown)
+    → AnswersSmallest (distance_rules B shown) Err (distance_answer B shown)
 unfolding distance_answer distance_refusal
-distance_answers B shown = answers_smallest (distance_numbers B shown) refl distance.Refused (distance_of (fewest B))
+distance_answers B shown = answers_smallest (distance_numbers B shown) refl Err (distance_of (fewest B))
 
 -- The game
 
@@ -115,9 +110,9 @@ unfolding game_refusal
 game_smallest B position = smallest_exactly (game_numbers B position) refl
 
 pub game_answers : (B : Board) (position : List ℕ) (q : Refusal) → Applies (game_rules B position) q
-    → AnswersSmallest (game_rules B position) game.Refused (game_answer B position)
+    → AnswersSmallest (game_rules B position) Err (game_answer B position)
 unfolding game_answer game_refusal
-game_answers B position = answers_smallest (game_numbers B position) refl game.Refused (game.Named (forced B position))
+game_answers B position = answers_smallest (game_numbers B position) refl Err (Ok (forced B position))
 
 -- The search for a trap
 
@@ -126,9 +121,9 @@ unfolding trap_refusal
 trap_smallest B loss set = smallest_exactly (trap_numbers B loss set) refl
 
 pub trap_answers : (B : Board) (loss set : List ℕ) (q : Refusal) → Applies (trap_rules B loss set) q
-    → AnswersSmallest (trap_rules B loss set) trap.Refused (trap_answer B loss set)
+    → AnswersSmallest (trap_rules B loss set) Err (trap_answer B loss set)
 unfolding trap_answer trap_refusal
-trap_answers B loss set = answers_smallest (trap_numbers B loss set) refl trap.Refused (trap_of (fewest_trap B loss))
+trap_answers B loss set = answers_smallest (trap_numbers B loss set) refl Err (trap_of (fewest_trap B loss))
 
 -- The reader
 
@@ -138,7 +133,7 @@ unfolding read_refusal
 read_smallest text old = smallest_exactly (read_numbers text old) refl
 
 pub read_answers : (text : List ℕ) (old : Buffers) (q : Refusal) → Applies (read_rules text old) q
-    → AnswersSmallest (read_rules text old) reading.Refused (counts (read_outcome text old))
+    → AnswersSmallest (read_rules text old) Err (counts (read_outcome text old))
 unfolding read_outcome read_refusal
 read_answers text old q a =
     let w = answers_smallest (read_numbers text old) refl refused (read_text text) q a in
@@ -167,7 +162,7 @@ torus_decides L ends marks = decides_exactly (torus_numbers L ends marks)
 side_first : (L : ℕ) (rules : List Rule) → refusal_of (side_rule L ∷ rules) ≡ some BufferLength → (least_side ≤ L) × (L ≤ largest_side)
 side_first L rules p =
     let kept = earlier_kept (side_rule L ∷ []) rules BufferLength p others in
-    let in_range = not_false_true (leb least_side L && leb L largest_side) (λ out. kept (TorusSide L) (here (out, refl))) in (
+    let in_range = true_from_ne_false (leb least_side L && leb L largest_side) (λ out. kept (TorusSide L) (here (out, refl))) in (
       leb-true least_side L (and_left (leb least_side L) (leb L largest_side) in_range),
       leb-true L largest_side (and_right (leb least_side L) (leb L largest_side) in_range),
     )
@@ -182,11 +177,11 @@ unfolding torus_refusal
 torus_length L ends marks = side_first L (length_rule (sized ends (4 * (L * L)) && sized marks (2 * (L * L))) ∷ [])
 
 -- the builder's answer alike
-pub torus_length_answer : (L : ℕ) (ends marks : List ℕ) → torus_answer L ends marks ≡ built.Refused BufferLength → (least_side ≤ L) × (L ≤ largest_side)
+pub torus_length_answer : (L : ℕ) (ends marks : List ℕ) → torus_answer L ends marks ≡ Err BufferLength → (least_side ≤ L) × (L ≤ largest_side)
 unfolding torus_answer
 torus_length_answer L ends marks p = go (torus_refusal L ends marks) refl p
   where
-    go : (t : Test) → torus_refusal L ends marks ≡ t → answer t built.Refused (built.Vertices (L * L)) ≡ built.Refused BufferLength
+    go : (t : Test) → torus_refusal L ends marks ≡ t → answer t Err (Ok (L * L)) ≡ Err BufferLength
         → (least_side ≤ L) × (L ≤ largest_side)
     go none e p = zero_one (cc)
     go (some r) e p = let same : r ≡ BufferLength = cc in torus_length L ends marks (e ∙ ap some same)
@@ -205,7 +200,7 @@ unfolding planar_refusal
 planar_length L ends marks opened p =
     let fit = sized ends (2 * planar_edges L) && sized marks (planar_edges L) && sized opened (planar_vertices L) in
     let kept = earlier_kept (planar_side_rule L ∷ []) (length_rule fit ∷ []) BufferLength p others in
-    let in_range = not_false_true (leb least_planar L && leb L largest_planar) (λ out. kept (PlanarSide L) (here (out, refl))) in (
+    let in_range = true_from_ne_false (leb least_planar L && leb L largest_planar) (λ out. kept (PlanarSide L) (here (out, refl))) in (
       leb-true least_planar L (and_left (leb least_planar L) (leb L largest_planar) in_range),
       leb-true L largest_planar (and_right (leb least_planar L) (leb L largest_planar) in_range),
     )
@@ -227,8 +222,8 @@ pub stack_length : (L R : ℕ) (readings ends marks syndrome : List ℕ) → sta
 unfolding stack_refusal
 stack_length L R readings ends marks syndrome p =
     let kept = earlier_kept (layer_rules L R) (reading_rules L R readings ends marks syndrome) BufferLength p others in
-    let side = not_false_true (leb least_side L && leb L largest_side) (λ out. kept (TorusSide L) (here (out, refl))) in
-    let rounds = not_false_true (leb 1 R && leb (stack_vertices L R) vertex_limit) (λ out. kept RoundCount (there (here (out, refl)))) in (
+    let side = true_from_ne_false (leb least_side L && leb L largest_side) (λ out. kept (TorusSide L) (here (out, refl))) in
+    let rounds = true_from_ne_false (leb 1 R && leb (stack_vertices L R) vertex_limit) (λ out. kept RoundCount (there (here (out, refl)))) in (
       leb-true least_side L (and_left (leb least_side L) (leb L largest_side) side),
       leb-true L largest_side (and_right (leb least_side L) (leb L largest_side) side),
       leb-true 1 R (and_left (leb 1 R) (leb (stack_vertices L R) vertex_limit) rounds),
@@ -269,11 +264,11 @@ pack_smallest n m syndrome loss syndromeWords lossWords = smallest_exactly (pack
 
 pub pack_answers : (n m : ℕ) (syndrome loss syndromeWords lossWords : List ℕ) (q : Refusal)
     → Applies (pack_rules n m syndrome loss syndromeWords lossWords) q
-    → AnswersSmallest (pack_rules n m syndrome loss syndromeWords lossWords) packed.Refused
+    → AnswersSmallest (pack_rules n m syndrome loss syndromeWords lossWords) Err
     (pack_answer n m syndrome loss syndromeWords lossWords)
 unfolding pack_answer pack_refusal
 pack_answers n m syndrome loss syndromeWords lossWords =
-    answers_smallest (pack_numbers n m syndrome loss syndromeWords lossWords) refl packed.Refused (packed.Words (word_count n) (word_count m))
+    answers_smallest (pack_numbers n m syndrome loss syndromeWords lossWords) refl Err (word_counts_with (word_count n) (word_count m))
 
 -- Unpacking: 19 of the syndrome's words before 19 of the loss words
 
@@ -290,14 +285,14 @@ unfolding lit_refusal
 lit_smallest n words others = smallest_exactly (lit_numbers n words others) refl
 
 pub lit_answers : (n : ℕ) (words : List ℕ) (q : Refusal) → Applies (lit_rules n words true) q
-    → AnswersSmallest (lit_rules n words true) lit.Refused (lit_answer n words)
+    → AnswersSmallest (lit_rules n words true) Err (lit_answer n words)
 unfolding lit_answer lit_refusal
-lit_answers n words = answers_smallest (lit_numbers n words true) refl lit.Refused (lit.Total (lit_total words))
+lit_answers n words = answers_smallest (lit_numbers n words true) refl Err (Ok (lit_total words))
 
 pub list_answers : (n : ℕ) (words list : List ℕ) (q : Refusal) → Applies (lit_rules n words (sized list n)) q
-    → AnswersSmallest (lit_rules n words (sized list n)) lit.Refused (list_answer n words list)
+    → AnswersSmallest (lit_rules n words (sized list n)) Err (list_answer n words list)
 unfolding list_answer lit_refusal
-list_answers n words list = answers_smallest (lit_numbers n words (sized list n)) refl lit.Refused (lit.Total (lit_total words))
+list_answers n words list = answers_smallest (lit_numbers n words (sized list n)) refl Err (Ok (lit_total words))
 
 -- Decoding of a packed sheet: 19 before 16 and 17, and 10 last
 
@@ -307,9 +302,9 @@ unfolding decode_packed_refusal
 decode_packed_decides B syndrome loss support correction = decides_exactly (decode_packed_numbers B syndrome loss support correction)
 
 pub decode_packed_last : (B : Board) (syndrome loss support correction : List ℕ) (v : ℕ)
-    → decode_packed_answer B syndrome loss support correction ≡ decoded.Refused (none_at v)
+    → decode_packed_answer B syndrome loss support correction ≡ Err (none_at v)
     → NoneApplies (decode_packed_rules B syndrome loss support correction)
 unfolding decode_packed_answer decode_packed_refusal
 decode_packed_last B syndrome loss support correction v =
-    other_number (decode_packed_numbers B syndrome loss support correction) (none_at v) refl decoded.Refused
+    other_number (decode_packed_numbers B syndrome loss support correction) (none_at v) refl Err
     (key_or_none (unpacked_sheet B syndrome loss)) (λ q e. cc)

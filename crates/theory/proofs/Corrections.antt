@@ -7,6 +7,7 @@ use mathlib.Core.Bool.{Bool, true, false, not, ◌&&◌, and-true, true≢false,
 use mathlib.Core.List.{List}
 use borrow.Author.Tests.{eqb-true, eq-eqb, ne_eqb, not-true}
 use lib.Dec.{eqb}
+use Rattle.std.proofs.lemmas.Bool.{false_from_ne_true, and_from}
 use Rattle.model.specs.Sums.{Set, ◌⊕◌, ones, bytes}
 use Rattle.model.specs.Board.{Board, Inside, edges, first_end, second_end}
 use Rattle.model.specs.Syndrome.{meets, odd_end, HasOddEnds}
@@ -15,7 +16,7 @@ use Rattle.model.specs.Components.{label, labels, within}
 use Rattle.model.specs.Growth.{oddly_lit}
 use Rattle.model.specs.Forest.{forest}
 use Rattle.model.specs.Correction.{without, odd_side, spanned}
-use Rattle.model.proofs.Xor.{xor_self, xor_comm, not_true_false, and_left, and_right, and_both}
+use Rattle.model.proofs.Xor.{xor_self, xor_comm, and_left, and_right}
 use Rattle.model.proofs.ListLaws.{ones_bytes}
 use Rattle.model.proofs.SumLaws.{odd_cong}
 use Rattle.theory.proofs.Totals.{xor_through}
@@ -80,7 +81,7 @@ cut_apart B r F e h p c = true≢false (sym here ∙ forest_acyclic B r F (toget
 
     out : l.set e ≡ false
     out =
-        not_true_false (l.set e)
+        false_from_ne_true (l.set e)
         (λ q. true≢false (sym (eq-eqb e e refl) ∙ not-true _ (and_right (forest B F e) (not (eqb e e)) (l.inside e q))))
 
     here : together l.set (eqb e) e ≡ true
@@ -132,7 +133,7 @@ side_odd B r F D S sub has e h p =
     crossing i = D i && (A (first_end B i) ⊕ A (second_end B i))
 
     stays : (i : ℕ) → i < edges B → (e ≡ i → ⊥) → D i ≡ true → G i ≡ true
-    stays i u apart q = and_both _ _ (sub.holds i u q) (ap not (ne_eqb i e (λ s. apart (sym s))))
+    stays i u apart q = and_from _ _ (sub.holds i u q) (ap not (ne_eqb i e (λ s. apart (sym s))))
 
     others : (i : ℕ) → i < edges B → (e ≡ i → ⊥) → (t : Bool) → D i ≡ t → crossing i ≡ false
     others i u apart true q = rw (q, connected_part B G (along i u (stays i u apart q))) (xor_self (A (second_end B i)))
@@ -154,7 +155,7 @@ spanned_unique B r F D S sub has e h = go (forest B F e) refl ∙ sym (spanned_i
   where
     go : (t : Bool) → forest B F e ≡ t → D e ≡ (forest B F e && odd_side B (without (forest B F) e) S (first_end B e))
     go true p = rw (p, side_odd B r F D S sub has e h p)
-    go false p = rw p (not_true_false (D e) (λ q. false≢true (sym p ∙ sub.holds e h q)))
+    go false p = rw p (false_from_ne_true (D e) (λ q. false≢true (sym p ∙ sub.holds e h q)))
 
 -- where every part holds an even number of them, it has them
 pub spanned_has_ends : (B : Board) → Inside B → (F S : Set) → EvenlyLit B (labels B F) S → HasOddEnds B (spanned B F S) S

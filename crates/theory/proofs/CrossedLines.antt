@@ -6,11 +6,12 @@ use mathlib.Core.Bool.{Bool, true, false, not, ◌&&◌, and-false, false≢true
 use native.Mathlib.Omega.{arith}
 use borrow.Author.Tests.{eqb-true, not-true, not-false}
 use lib.Dec.{eqb}
+use Rattle.std.proofs.lemmas.Bool.{true_from_ne_false}
 use Rattle.model.specs.Sums.{Set, bit, odd_up_to}
 use Rattle.model.specs.Board.{Board, edges, mark}
 use Rattle.model.specs.Syndrome.{syndrome, HasSyndrome}
 use Rattle.model.specs.Winding.{closed, crosses_a, crosses_b, crossings, winds}
-use Rattle.model.proofs.Xor.{and_left, not_false_true}
+use Rattle.model.proofs.Xor.{and_left}
 use Rattle.model.proofs.SumLaws.{some_none, none_some, some_cong, odd_cong}
 use Rattle.theory.proofs.Syndromes.{syndrome_cong}
 
@@ -87,13 +88,13 @@ unwound_unmarked B D c p = zero_unmarked B D (eqb-true (crossings B D) 0 (not-fa
 
 -- a closed set that crosses some line an odd number of times winds
 pub marked_winds : (B : Board) (D : Set) (x : Line) → Closed B D → crosses_oddly B x D ≡ true → winds B D ≡ true
-marked_winds B D x c p = not_false_true (winds B D) (λ q. false≢true (sym (unwound_unmarked B D c q x) ∙ p))
+marked_winds B D x c p = true_from_ne_false (winds B D) (λ q. false≢true (sym (unwound_unmarked B D c q x) ∙ p))
 
 -- a set that is closed where another is, and crosses both lines as that one does, winds where that one does
 pub winds_alike : (B C : Board) (D E : Set) → (Closed B D → Closed C E) → ((x : Line) → crosses_oddly B x D ≡ crosses_oddly C x E)
     → winds B D ≡ true → winds C E ≡ true
 winds_alike B C D E shut alike w =
-    not_false_true (winds C E)
+    true_from_ne_false (winds C E)
     (λ q.
     let even = unwound_unmarked C E (shut (winds_closed B D w)) q in
     false≢true (sym (unmarked_unwound B D (λ x. alike x ∙ even x)) ∙ w))

@@ -6,7 +6,6 @@ use mathlib.Core.Path.{◌≡◌}
 use mathlib.Core.List.{List}
 use mathlib.Core.Option.{none, some}
 use Rattle.model.specs.declared.refusal.Refusal.{Refusal}
-use Rattle.model.specs.declared.answers.Decoded.TheVariants.{Key, Refused}
 use Rattle.model.specs.Sums.{Set, ones}
 use Rattle.model.specs.Board.{Board, Inside, Unlit, Sheet}
 use Rattle.model.specs.Syndrome.{HasSyndrome}
@@ -20,6 +19,8 @@ use Rattle.theory.proofs.GrowthRun.{NoneOdd, Feeds, Reached, grown_ends}
 use Rattle.theory.proofs.Forests.{Within, forest_inside}
 use Rattle.theory.proofs.OddEnds.{correction_in_forest, correction_has_syndrome}
 use Rattle.theory.proofs.GrowthBound.{growth_ends}
+use Rattle.model.specs.Answers.{key_with}
+use Rattle.std.specs.Prelude.{Err}
 
 -- The answer: number 10 with the smallest vertex of all odd parts, or the key
 
@@ -36,14 +37,14 @@ pub even_answer : {A : Type 0} (refused : Refusal → A) (key : A) (X : Sheet) �
     → answer (odd_part_test X) refused key ≡ key
 even_answer refused key X p = rw p
 
-pub none_answer : (X : Sheet) (v : ℕ) → smallest_odd X.board (ones X.syndrome) ≡ some v → key_or_none X ≡ Refused (none_at v)
+pub none_answer : (X : Sheet) (v : ℕ) → smallest_odd X.board (ones X.syndrome) ≡ some v → key_or_none X ≡ Err (none_at v)
 unfolding key_or_none
-none_answer X v p = odd_answer Refused (Key (growths X) (size X.board (corrected X))) X v p
+none_answer X v p = odd_answer Err (key_with (growths X) (size X.board (corrected X))) X v p
 
 pub key_answer : (X : Sheet) → smallest_odd X.board (ones X.syndrome) ≡ none
-    → key_or_none X ≡ Key (growths X) (size X.board (corrected X))
+    → key_or_none X ≡ key_with (growths X) (size X.board (corrected X))
 unfolding key_or_none
-key_answer X p = even_answer Refused (Key (growths X) (size X.board (corrected X))) X p
+key_answer X p = even_answer Err (key_with (growths X) (size X.board (corrected X))) X p
 
 -- The correction, by any policy
 

@@ -5,8 +5,6 @@ use Prim.Native.Nat.{ℕ}
 use mathlib.Core.Path.{◌≡◌, ap, ◌∙◌}
 use mathlib.Core.List.{List}
 use mathlib.Core.Option.{none}
-use Rattle.model.specs.declared.answers.Decoded.{Decoded}
-use Rattle.model.specs.declared.answers.Decoded.TheVariants.{Key, Refused}
 use Rattle.model.specs.Sums.{Set, ones, bytes}
 use Rattle.model.specs.Board.{Board, Inside, Sheet, ValidSheet, edges}
 use Rattle.model.specs.Syndrome.{HasSyndrome}
@@ -24,6 +22,8 @@ use Rattle.theory.proofs.GrowthBound.{growth_bound}
 use Rattle.theory.proofs.NotWinding.{not_winding}
 use Rattle.theory.proofs.Decodings.{passed_answer, key_answer, key_reached}
 use Rattle.theory.proofs.SoundKeys.{Cases, IsCorrection, is_met, is_inside, sound_key}
+use Rattle.model.specs.Answers.{Decoded, key_with}
+use Rattle.std.specs.Prelude.{Ok, Err}
 
 -- the bounds, for any correction in the full edges that weighted growth reached
 pub reached_bounded : (B : Board) → Inside B → (S lost C : Set) {s : List ℕ} {g : ℕ} → Reached B (weighted B S) lost s g → Within B C (full s)
@@ -35,16 +35,21 @@ reached_bounded B r S lost C c sub has E hasE =
       unwound = not_winding B r S lost E C hasE has c sub;
     }
 
+growths_of : Decoded → ℕ
+growths_of (Ok k) = k.growths
+growths_of (Err n) = 0
+
 -- a key is no refusal
-decoded_cases : Cases Refused Key
-decoded_cases = record { apart = λ g k n p. zero_one (cc); count = λ g k h j p. cc }
+decoded_cases : Cases Err key_with
+unfolding growths_of
+decoded_cases = record { apart = λ g k n p. zero_one (cc); count = λ g k h j p. ap growths_of p }
 
 -- Demand 3.
 pub demand3 : (X : Sheet) → ValidSheet X → (r : Decoded) (C : Set) → r ≡ key_or_none X → IsCorrection weighted X C
     → Demand3 X.board (ones X.syndrome) (ones X.loss) r C
 unfolding key_or_none
 demand3 X valid r C result is =
-    sound_key weighted X range valid.unlit feeds Refused Key decoded_cases C is (Bounded X.board (ones X.loss) C)
+    sound_key weighted X range valid.unlit feeds Err key_with decoded_cases C is (Bounded X.board (ones X.loss) C)
     (λ p. reached_bounded X.board range (ones X.syndrome) (ones X.loss) C (key_reached weighted X)
     (is_inside weighted X range valid.unlit feeds C is p) (is_met weighted X range valid.unlit feeds C is p))
     r result

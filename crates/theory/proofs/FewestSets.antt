@@ -8,11 +8,11 @@ use native.Mathlib.Nat.{not-le_of_lt}
 use native.Mathlib.Omega.{arith}
 use borrow.Author.Tests.{leb-true, leb-false, eqb-true, eqb-false, ne_eqb}
 use lib.Dec.{eqb, leb}
+use Rattle.std.proofs.lemmas.Bool.{false_from_ne_true}
 use Rattle.model.specs.Sums.{Set}
 use Rattle.model.specs.Board.{Board, edges}
 use Rattle.model.specs.Winding.{size}
 use Rattle.model.specs.Distance.{lesser, with, fewest_from, fewest_where}
-use Rattle.model.proofs.Xor.{not_true_false}
 use Rattle.model.proofs.SumLaws.{count_cong}
 
 -- two sets have the same edges of the board
@@ -128,7 +128,7 @@ module _ (B : Board) (P : Set → Bool) (local : OfEdges B P) where
 
   -- where there is none, no set meets the test
   pub where_none : fewest_where B P ≡ none → (D : Set) → P D ≡ false
-  where_none p D = not_true_false (P D) (λ w. subst (λ o. AtMost o (size B D)) p (where_at_most D w))
+  where_none p D = false_from_ne_true (P D) (λ w. subst (λ o. AtMost o (size B D)) p (where_at_most D w))
 
   -- and the reverse of both
   pub least_where : (d : ℕ) → LeastWhere B P d → fewest_where B P ≡ some d

@@ -10,12 +10,13 @@ use native.Mathlib.Nat.{le_of_lt, eq-or-lt_of_le}
 use native.Mathlib.Omega.{arith}
 use borrow.Author.Tests.{eqb-true, eq-eqb, ne_eqb, not-true, not-false, ltb-true, ltb-false}
 use lib.Dec.{eqb, ltb}
+use Rattle.std.proofs.lemmas.Bool.{false_from_ne_true, and_from}
 use Rattle.model.specs.Sums.{Set, ◌⊕◌, odd_up_to}
 use Rattle.model.specs.Board.{Board, Inside, edges, first_end, second_end}
 use Rattle.model.specs.Syndrome.{odd_end, HasOddEnds}
 use Rattle.model.specs.Components.{label, merge, join, labels_up_to, within}
 use Rattle.model.specs.Forest.{parted, taken_up_to, forest}
-use Rattle.model.proofs.Xor.{xor_self, not_true_false, and_left, and_right, and_both}
+use Rattle.model.proofs.Xor.{xor_self, and_left, and_right}
 use Rattle.model.proofs.SumLaws.{odd_none}
 use Rattle.theory.proofs.OddMembers.{odd_one}
 use Rattle.theory.proofs.Syndromes.{cut}
@@ -72,7 +73,7 @@ module _ (B : Board) (F : Set) where
   pub forest_takes : Inside B → (e : ℕ) → e < edges B → F e ≡ true → (Connected B F e (first_end B e) (second_end B e) → ⊥)
       → forest B F e ≡ true
   forest_takes r e h p apart =
-      forest_is e ∙ and_both _ _ p (ap not (ne_eqb _ _ (λ q. apart (connected q))))
+      forest_is e ∙ and_from _ _ p (ap not (ne_eqb _ _ (λ q. apart (connected q))))
     where
       connected : label (labels_up_to B F e) (first_end B e) ≡ label (labels_up_to B F e) (second_end B e) → Connected B F e (first_end B e) (second_end B e)
       connected = label_equal_connected B F r e (le_of_lt h) (first_end B e) (second_end B e) (r.first_in_range e h) (r.second_in_range e h)
@@ -118,7 +119,7 @@ forest_acyclic B r F D sub closed e h = from (edges B) 0 (omega arith) e (omega 
   where
     here : (e : ℕ) → e < edges B → ((i : ℕ) → e < i → i < edges B → D i ≡ false) → D e ≡ false
     here e h above =
-        not_true_false (D e) (λ p. forest_parted B F e (sub.holds e h p)
+        false_from_ne_true (D e) (λ p. forest_parted B F e (sub.holds e h p)
         (cycle_closes B r D F e closed h p (λ i u q. forest_inside B F i (sub.holds i (omega arith) q)) above))
 
     -- every edge from e on is out

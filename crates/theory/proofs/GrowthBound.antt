@@ -12,6 +12,7 @@ use native.Mathlib.Omega.{arith}
 use borrow.Author.Tests.{eqb-false}
 use lib.ListN.{get_or}
 use lib.Dec.{eqb}
+use Rattle.std.proofs.lemmas.Bool.{false_from_ne_true, and_from}
 use Rattle.model.specs.Sums.{Set, ◌⊕◌, bit, count_up_to}
 use Rattle.model.specs.Board.{Board, Inside, Unlit, edges, first_end, second_end}
 use Rattle.model.specs.Syndrome.{HasSyndrome}
@@ -21,7 +22,7 @@ use Rattle.model.specs.Growth.{full, clusters, swell, Policy, grown}
 use Rattle.model.specs.Correction.{correction}
 use Rattle.model.specs.Decoding.{smallest_odd}
 use Rattle.model.specs.Demand3.{kept_edges}
-use Rattle.model.proofs.Xor.{equal_xor, not_true_false, and_left, and_right, and_both}
+use Rattle.model.proofs.Xor.{equal_xor, and_left, and_right}
 use Rattle.model.proofs.SumLaws.{below_suc, count_bound, Some}
 use Rattle.theory.proofs.OddMembers.{odd_found}
 use Rattle.theory.proofs.Totals.{sum_up_to, sum_mono}
@@ -71,7 +72,7 @@ crossing_open : (B : Board) (s : List ℕ) (a e : ℕ) → e < edges B
     → (within (clusters B s) a (first_end B e) ⊕ within (clusters B s) a (second_end B e)) ≡ true → full s e ≡ false
 unfolding clusters
 crossing_open B s a e h p =
-    not_true_false (full s e) (λ q. true≢false (sym p ∙ equal_xor _ _ (ap (λ x. eqb x a) (connected_part B (full s) (along e h q)))))
+    false_from_ne_true (full s e) (λ q. true≢false (sym p ∙ equal_xor _ _ (ap (λ x. eqb x a) (connected_part B (full s) (along e h q)))))
 
 -- so where an odd cluster grows, what E's kept edges have rises
 pub paid_rises : (B : Board) → Inside B → (S lost E : Set) → HasSyndrome B E S → (s : List ℕ) → Supports B lost s → (R : Set) → Fed B S s R
@@ -101,8 +102,8 @@ paid_rises B r S lost E has s w R fed =
     open_edge = crossing_open B s a e x.less across
 
     here : kept lost E e ≡ true
-    here = and_both _ _ (and_left (E e) _ x.holds)
-        (ap not (not_true_false (lost e) (λ q. true≢false (sym (w.lost_full e x.less q) ∙ open_edge))))
+    here = and_from _ _ (and_left (E e) _ x.holds)
+        (ap not (false_from_ne_true (lost e) (λ q. true≢false (sym (w.lost_full e x.less q) ∙ open_edge))))
 
     -- an end in the cluster grows
     grows : (v : ℕ) → v < B.vertices → (t : Bool) → within (clusters B s) a v ≡ t → bit t ≤ bit (R v)

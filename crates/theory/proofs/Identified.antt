@@ -11,6 +11,8 @@ use native.Mathlib.Omega.{arith}
 use borrow.Author.Tests.{eqb-true, eqb-false, ne_eqb}
 use lib.ListN.{length, get_or}
 use lib.Dec.{eqb}
+use Rattle.std.proofs.lemmas.Bool.{false_from_ne_true}
+use Rattle.std.specs.Cmp.{both_ways}
 use Rattle.model.specs.Sums.{Set, ◌⊕◌, bit, odd_up_to, first_up_to}
 use Rattle.model.specs.Board.{Board, Inside, Valid, edges, first_end, second_end, is_open}
 use Rattle.model.specs.Syndrome.{meets, odd_end, syndrome}
@@ -20,14 +22,12 @@ use Rattle.model.specs.Demand3.{EveryLoopAbove}
 use Rattle.model.specs.Distance.{fewest_from, fewest_where, fewest, lesser, with}
 use Rattle.model.specs.Identified.{or_zero, gate, glued, glued_ends, identified}
 use Rattle.model.specs.Outcomes.{ShowsLoop}
-use Rattle.model.proofs.Xor.{not_true_false}
 use Rattle.model.proofs.SumLaws.{odd_cong, odd_none, First, first_found, none_first}
 use Rattle.model.proofs.ListLaws.{length_values, get_d_values, values_cong}
 use Rattle.model.proofs.OpenBytes.{zeros_valid}
 use Rattle.theory.proofs.OddMembers.{odd_one}
 use Rattle.theory.proofs.Syndromes.{cut, Avoids, Sealed, without_open_sealed, sealed_ends, shut_syndrome, open_syndrome, even_closed}
 use Rattle.theory.proofs.CrossedLines.{Closed, closed_true, true_closed}
-use Rattle.theory.proofs.JoinedLabels.{same_test}
 use Rattle.theory.proofs.Connected.{Connected, alone, along, back, chain}
 
 -- no vertex of it is open
@@ -160,7 +160,7 @@ module _ (B : Board) (r : Inside B) where
     unfolding winds crossings
     winds_identified =
         ap (λ t. t && not (eqb (crossings B D) 0))
-        (same_test (closed (identified B) D) (closed B D)
+        (both_ways (closed (identified B) D) (closed B D)
         (λ p. closed_true B D (identified_closed (true_closed (identified B) D p)))
         (λ p. closed_true (identified B) D (closed_identified (true_closed B D p))))
 
@@ -202,7 +202,7 @@ module _ (B : Board) (r : Inside B) where
       (ap R (first_glued e h) ∙ alike (first_end B e) (r.first_in_range e h)) (ap R (second_glued e h) ∙ alike (second_end B e) (r.second_in_range e h)))
     where
       out : (v : ℕ) → v < B.vertices → is_open B v ≡ true → R v ≡ false
-      out v h p = not_true_false (R v) (λ q. true≢false (sym p ∙ w.shut v h q))
+      out v h p = false_from_ne_true (R v) (λ q. true≢false (sym p ∙ w.shut v h q))
 
       alike : (v : ℕ) → v < B.vertices → R (glued B v) ≡ R v
       alike v h = go (is_open B v) refl

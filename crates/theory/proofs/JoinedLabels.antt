@@ -4,48 +4,30 @@
 use Prim.Native.Nat.{ℕ, ◌<◌}
 use mathlib.Core.Path.{◌≡◌, refl, sym, ◌∙◌}
 use mathlib.Core.Logic.{◌⊎◌, inl, inr, ⊎_elim}
-use mathlib.Core.Bool.{Bool, true, false, ◌&&◌, ◌||◌, or-true, false≢true}
+use mathlib.Core.Bool.{Bool, true, ◌&&◌, ◌||◌}
 use lib.Dec.{eqb}
 use borrow.Author.Tests.{eqb-true, eq-eqb}
+use Rattle.std.proofs.lemmas.Bool.{and_from, or_cases, or_left, or_right}
+use Rattle.std.specs.Cmp.{both_ways}
 use Rattle.model.specs.Sums.{Set}
 use Rattle.model.specs.Board.{Board, Inside, edges, first_end, second_end}
 use Rattle.model.specs.Components.{label, labels}
-use Rattle.model.proofs.Xor.{and_left, and_right, and_both}
+use Rattle.model.proofs.Xor.{and_left, and_right}
 use Rattle.theory.proofs.Connected.{Connected, along, back, chain, Through, beside, forward, backward, EdgesAmong, connected_mono, through_edge}
 use Rattle.theory.proofs.Components.{connected_part, part_connected}
-
--- two tests that imply each other are one
-pub same_test : (a b : Bool) → (a ≡ true → b ≡ true) → (b ≡ true → a ≡ true) → a ≡ b
-same_test true b to from = sym (to refl)
-same_test false true to from = absurd (false≢true (from refl))
-same_test false false to from = refl
-
--- one of two tests holds where either does
-pub one_of : (a b : Bool) → (a || b) ≡ true → (a ≡ true) ⊎ (b ≡ true)
-one_of true b p = inl refl
-one_of false b p = inr p
-
-or_left : (a b : Bool) → a ≡ true → (a || b) ≡ true
-or_left a b p = rw p
-
-or_right : (a b : Bool) → b ≡ true → (a || b) ≡ true
-or_right a b p = rw p (or-true a)
 
 -- the labels x and y become one: which of the labels u and v are then equal
 abbrev pub joined_by : ℕ → ℕ → ℕ → ℕ → Bool
 joined_by x y u v = eqb u v || ((eqb u x || eqb u y) && (eqb v x || eqb v y))
 
-joined_same : (x y u v : ℕ) → u ≡ v → joined_by x y u v ≡ true
-joined_same x y u v p = or_left (eqb u v) _ (eq-eqb u v p)
-
 end_test : (x y u : ℕ) → (u ≡ x) ⊎ (u ≡ y) → (eqb u x || eqb u y) ≡ true
 end_test x y u = ⊎_elim (λ p. or_left (eqb u x) (eqb u y) (eq-eqb u x p)) (λ p. or_right (eqb u x) (eqb u y) (eq-eqb u y p))
 
 test_end : (x y u : ℕ) → (eqb u x || eqb u y) ≡ true → (u ≡ x) ⊎ (u ≡ y)
-test_end x y u p = ⊎_elim (λ q. inl (eqb-true u x q)) (λ q. inr (eqb-true u y q)) (one_of (eqb u x) (eqb u y) p)
+test_end x y u p = ⊎_elim (λ q. inl (eqb-true u x q)) (λ q. inr (eqb-true u y q)) (or_cases (eqb u x) (eqb u y) p)
 
 joined_across : (x y u v : ℕ) → (u ≡ x) ⊎ (u ≡ y) → (v ≡ x) ⊎ (v ≡ y) → joined_by x y u v ≡ true
-joined_across x y u v p q = or_right (eqb u v) _ (and_both _ _ (end_test x y u p) (end_test x y v q))
+joined_across x y u v p q = or_right (eqb u v) _ (and_from _ _ (end_test x y u p) (end_test x y v q))
 
 -- G is F and edge e
 pub record Adds (B : Board) (F : Set) (e : ℕ) (G : Set) : Type 0 where
@@ -60,7 +42,7 @@ module _ (B : Board) (r : Inside B) (F : Set) (e : ℕ) (G : Set) (w : Adds B F 
   kept = record { less = λ i h p. h; holds = λ i h p. w.each i h ∙ or_left (F i) (eqb e i) p }
 
   only : (i : ℕ) → i < edges B → G i ≡ true → ((i < edges B) × (F i ≡ true)) ⊎ (i ≡ e)
-  only i h p = ⊎_elim (λ q. inl (h, q)) (λ q. inr (sym (eqb-true e i q))) (one_of (F i) (eqb e i) (sym (w.each i h) ∙ p))
+  only i h p = ⊎_elim (λ q. inl (h, q)) (λ q. inr (sym (eqb-true e i q))) (or_cases (F i) (eqb e i) (sym (w.each i h) ∙ p))
 
   -- the label of v by F
   abbrev by : ℕ → ℕ
@@ -81,7 +63,7 @@ module _ (B : Board) (r : Inside B) (F : Set) (e : ℕ) (G : Set) (w : Adds B F 
 
   module _ (u v : ℕ) (hu : u < B.vertices) (hv : v < B.vertices) where
     crossing : Through B F (edges B) e u v → joined_by (by a) (by b) (by u) (by v) ≡ true
-    crossing (beside c) = joined_same (by a) (by b) (by u) (by v) (connected_part B F c)
+    crossing (beside c) = or_left (eqb (by u) (by v)) _ (eq-eqb (by u) (by v) (connected_part B F c))
     crossing (forward c d) = joined_across (by a) (by b) (by u) (by v) (inl (connected_part B F c)) (inr (sym (connected_part B F d)))
     crossing (backward c d) = joined_across (by a) (by b) (by u) (by v) (inr (connected_part B F c)) (inl (sym (connected_part B F d)))
 
@@ -90,11 +72,11 @@ module _ (B : Board) (r : Inside B) (F : Set) (e : ℕ) (G : Set) (w : Adds B F 
         ⊎_elim
         (λ q. connected_mono B F (edges B) G (edges B) kept (part_connected B F r u v hu hv (eqb-true (by u) (by v) q)))
         (λ q. chain (reaches u hu (test_end (by a) (by b) (by u) (and_left (eqb (by u) (by a) || eqb (by u) (by b)) _ q))) (back (reaches v hv (test_end (by a) (by b) (by v) (and_right (eqb (by u) (by a) || eqb (by u) (by b)) _ q)))))
-        (one_of (eqb (by u) (by v)) _ p)
+        (or_cases (eqb (by u) (by v)) _ p)
 
     -- the labels by G
     pub added_edge : eqb (label (labels B G) u) (label (labels B G) v) ≡ joined_by (by a) (by b) (by u) (by v)
     added_edge =
-        same_test _ _
+        both_ways _ _
         (λ p. crossing (through_edge B F (edges B) G (edges B) e only (part_connected B G r u v hu hv (eqb-true _ _ p))))
         (λ p. eq-eqb _ _ (connected_part B G (connects p)))

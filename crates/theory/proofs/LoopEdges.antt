@@ -12,6 +12,7 @@ use native.Mathlib.Omega.{arith}
 use borrow.Author.Tests.{eq-eqb, ne_eqb}
 use lib.ListN.{get_or}
 use lib.Dec.{eqb}
+use Rattle.std.proofs.lemmas.Bool.{false_from_ne_true, and_from}
 use Rattle.model.specs.Sums.{Set, ◌⊕◌, bit}
 use Rattle.model.specs.Board.{Board, Sheet, Valid, LoopEdge, edges, first_end, second_end, mark, is_open}
 use Rattle.model.specs.Syndrome.{meets, odd_end, syndrome}
@@ -24,7 +25,7 @@ use Rattle.model.specs.Decoding.{grown_by, peeled}
 use Rattle.model.specs.Demand3.{lost_edges, kept_edges}
 use Rattle.model.specs.Distance.{fewest}
 use Rattle.model.proofs.Bits.{byte_bit}
-use Rattle.model.proofs.Xor.{xor_self, xor_false, not_true_false, and_both}
+use Rattle.model.proofs.Xor.{xor_self, xor_false}
 use Rattle.model.proofs.SumLaws.{odd_cong, odd_at, odd_none}
 use Rattle.model.proofs.CountLaws.{count_before, count_more}
 use Rattle.theory.proofs.Totals.{count_at}
@@ -72,7 +73,7 @@ module _ (B : Board) (e : ℕ) (h : e < edges B) where
   pub kept_counts : (lost E : Set) → E e ≡ true → lost e ≡ false → kept_edges B lost E ≡ suc (kept_edges B lost (without E e))
   kept_counts lost E p q =
       count_more (edges B) e (λ i. without E e i && not (lost i)) (λ i. E i && not (lost i)) h
-      (ap (λ t. t && not (lost e)) (left_out E)) (and_both (E e) (not (lost e)) p (ap not q))
+      (ap (λ t. t && not (lost e)) (left_out E)) (and_from (E e) (not (lost e)) p (ap not q))
       (λ i apart. ap (λ t. t && not (lost i)) (kept_in E i apart))
 
 -- a set that winds has some edge
@@ -81,7 +82,7 @@ unfolding crosses_oddly
 winding_some B D w = go (size B D) refl
   where
     empty : size B D ≡ 0 → (i : ℕ) → i < edges B → D i ≡ false
-    empty z i h = not_true_false (D i) (λ p. absurd (omega (arith, count_before i (edges B) D h p)))
+    empty z i h = false_from_ne_true (D i) (λ p. absurd (omega (arith, count_before i (edges B) D h p)))
 
     even : size B D ≡ 0 → (x : Line) → crosses_oddly B x D ≡ false
     even z x = odd_none (edges B) (λ i. D i && crosses B x i) (λ i h. rw (empty z i h))

@@ -7,6 +7,7 @@ use mathlib.Core.Logic.{◌↔◌}
 use mathlib.Core.Option.{Option, none, some}
 use borrow.Author.Tests.{eqb-true, eqb-false, ne_eqb}
 use lib.Dec.{eqb}
+use Rattle.std.proofs.lemmas.Bool.{false_from_ne_true}
 use Rattle.model.specs.Sums.{Set, ◌⊕◌}
 use Rattle.model.specs.Board.{Board, Inside, Unlit, edges, first_end, second_end}
 use Rattle.model.specs.Syndrome.{HasSyndrome}
@@ -15,7 +16,7 @@ use Rattle.model.specs.Growth.{oddly_lit, odd}
 use Rattle.model.specs.Correction.{correction}
 use Rattle.model.specs.Decoding.{parts, in_odd_part, smallest_odd}
 use Rattle.model.specs.Demand3.{Unmet}
-use Rattle.model.proofs.Xor.{xor_self, not_true_false}
+use Rattle.model.proofs.Xor.{xor_self}
 use Rattle.model.proofs.SumLaws.{odd_none, none_first}
 use Rattle.theory.proofs.GrowthRun.{NoneOdd}
 use Rattle.theory.proofs.OddParts.{odd_cut, even_lit}
@@ -28,7 +29,7 @@ use Rattle.theory.proofs.OddEnds.{correction_has_syndrome}
 pub part_even : (B : Board) → Inside B → (F E S : Set) → ((e : ℕ) → e < edges B → E e ≡ true → F e ≡ true) → HasSyndrome B E S → (a : ℕ)
     → odd B (labels B F) S a ≡ false
 part_even B r F E S sub has a =
-    not_true_false _
+    false_from_ne_true _
     (λ p. true≢false (sym (odd_cut B (labels B F) S a r E has p)
     ∙ odd_none (edges B) (λ e. E e && (within (labels B F) a (first_end B e) ⊕ within (labels B F) a (second_end B e)))
     (λ e h. go e h (E e) refl)))

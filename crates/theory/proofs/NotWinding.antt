@@ -9,6 +9,7 @@ use mathlib.Core.Bool.{Bool, true, false, not, ◌&&◌, true≢false, false≢t
 use mathlib.Core.List.{List}
 use native.Mathlib.Omega.{arith}
 use borrow.Author.Tests.{eqb-true}
+use Rattle.std.proofs.lemmas.Bool.{and_from}
 use Rattle.model.specs.Sums.{Set, ◌⊕◌}
 use Rattle.model.specs.Board.{Board, Inside, edges}
 use Rattle.model.specs.Syndrome.{HasSyndrome}
@@ -17,7 +18,6 @@ use Rattle.model.specs.Components.{label}
 use Rattle.model.specs.Growth.{start, full, clusters, swell, weighted}
 use Rattle.model.specs.Identified.{glued, identified}
 use Rattle.model.specs.Demand3.{lost_edges, kept_edges, EveryLoopAbove}
-use Rattle.model.proofs.Xor.{and_both}
 use Rattle.theory.proofs.Syndromes.{together_closed, Avoids}
 use Rattle.theory.proofs.OddParts.{odd_avoids}
 use Rattle.theory.proofs.Connected.{Connected}
@@ -78,7 +78,7 @@ spread_apart B r S lost E C has also {s} c few inside above =
     -- an edge of the two sets together that is not full is one of E: C's are full
     left : (e : ℕ) → e < edges B → full s e ≡ false → (x y : Bool) → E e ≡ x → C e ≡ y → x ⊕ y ≡ true → (E e && not (full s e)) ≡ true
     left e h f x true p q w = absurd (true≢false (sym (inside.holds e h q) ∙ f))
-    left e h f true false p q w = and_both (E e) (not (full s e)) p (ap not f)
+    left e h f true false p q w = and_from (E e) (not (full s e)) p (ap not f)
     left e h f false false p q w = absurd (false≢true w)
 
 -- Not winding.

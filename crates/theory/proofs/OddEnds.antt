@@ -9,6 +9,7 @@ use mathlib.Core.Option.{Option, none, some}
 use native.Mathlib.Omega.{arith}
 use borrow.Author.Tests.{eqb-true, not-true, ltb-true, ltb-false}
 use lib.Dec.{eqb, ltb}
+use Rattle.std.proofs.lemmas.Bool.{false_from_ne_true, and_from}
 use Rattle.model.specs.Sums.{Set, ◌⊕◌, odd_up_to, some_up_to, first_up_to, ones, bytes}
 use Rattle.model.specs.Board.{Board, Inside, Unlit, edges, is_open}
 use Rattle.model.specs.Syndrome.{HasOddEnds, syndrome, HasSyndrome}
@@ -16,7 +17,7 @@ use Rattle.model.specs.Components.{label, labels, within}
 use Rattle.model.specs.Growth.{oddly_lit, holds_open}
 use Rattle.model.specs.Forest.{forest}
 use Rattle.model.specs.Correction.{outlet, odd_ends, correction}
-use Rattle.model.proofs.Xor.{xor_false, xor_and, and_left, and_right, and_both, not_true_false}
+use Rattle.model.proofs.Xor.{xor_false, xor_and, and_left, and_right}
 use Rattle.model.proofs.SumLaws.{odd_cong, odd_xor, odd_and, some_found, some_none, none_some, some_cong, First, first_found, none_first}
 use Rattle.model.proofs.ListLaws.{ones_bytes}
 use Rattle.theory.proofs.OddMembers.{odd_one}
@@ -41,19 +42,19 @@ module _ (B : Board) (l : List ℕ) where
       here x f =
           let in-it = and_right (is_open B x) (within l a x) f.holds in
           let own = eqb-true (label l x) a in-it in
-          and_both _ _
-          (and_both _ _ (and_left (is_open B x) (within l a x) f.holds)
+          and_from _ _
+          (and_from _ _ (and_left (is_open B x) (within l a x) f.holds)
           (ap not (none_some x (open_in (label l x)) (λ u h. ap (λ b. open_in b u) own ∙ f.before u h))))
           in-it
 
       -- none after it is, since it is the smaller one
       others : (x : ℕ) → First B.vertices (open_in a) x → (i : ℕ) → i < B.vertices → (x ≡ i → ⊥) → (outlet B l i && within l a i) ≡ false
-      others x f i h apart = not_true_false _ (λ p. at p (ltb i x) refl)
+      others x f i h apart = false_from_ne_true _ (λ p. at p (ltb i x) refl)
         where
           at : (outlet B l i && within l a i) ≡ true → (t : Bool) → ltb i x ≡ t → ⊥
           at p true q =
               let out = and_left (outlet B l i) (within l a i) p in
-              let opens = and_both (is_open B i) (within l a i) (and_left (is_open B i) _ out) (and_right (outlet B l i) (within l a i) p) in
+              let opens = and_from (is_open B i) (within l a i) (and_left (is_open B i) _ out) (and_right (outlet B l i) (within l a i) p) in
               true≢false (sym opens ∙ f.before i (ltb-true i x q))
           at p false q =
               let own = eqb-true (label l i) a (and_right (outlet B l i) (within l a i) p) in

@@ -4,8 +4,8 @@ use mathlib.Core.Path.{◌≡◌, refl, sym, ap, ◌∙◌}
 use mathlib.Core.Bool.{Bool, true, false, ◌&&◌, and-false, and-true, true≢false}
 use borrow.Author.Tests.{eqb-false}
 use lib.Dec.{eqb}
+use Rattle.std.proofs.lemmas.Bool.{true_from_ne_false}
 use Rattle.model.specs.Sums.{Set, odd_up_to, some_up_to}
-use Rattle.model.proofs.Xor.{not_false_true}
 use Rattle.model.proofs.SumLaws.{odd_cong, odd_at, odd_none, Some, some_found, some_none}
 
 -- a set of which only the number a may be a member
@@ -18,4 +18,4 @@ odd_one n a f h others = odd_cong n f (λ i. f i && eqb a i) (λ i l. go i l (eq
 
 -- an odd number of members: some member
 pub odd_found : (n : ℕ) (f : Set) → odd_up_to n f ≡ true → Some n f
-odd_found n f p = some_found n f (not_false_true (some_up_to n f) (λ q. true≢false (sym p ∙ odd_none n f (some_none n f q))))
+odd_found n f p = some_found n f (true_from_ne_false (some_up_to n f) (λ q. true≢false (sym p ∙ odd_none n f (some_none n f q))))

@@ -1,16 +1,17 @@
 -- Odd parts: an odd part holds an odd number of syndrome vertices and no open vertex. So a cut around it tells the syndrome.
 -- Assumes nothing.
 use Prim.Native.Nat.{ℕ, ◌<◌}
-use mathlib.Core.Path.{◌≡◌, refl, sym, ap, ap₂, ◌∙◌}
-use mathlib.Core.Bool.{Bool, true, false, not, ◌&&◌, true≢false}
+use mathlib.Core.Path.{◌≡◌, sym, ap, ap₂, ◌∙◌}
+use mathlib.Core.Bool.{true, false, not, ◌&&◌, true≢false, and-true}
 use mathlib.Core.List.{List}
 use borrow.Author.Tests.{not-true, not-false}
+use Rattle.std.proofs.lemmas.Bool.{false_from_ne_true, and_from}
 use Rattle.model.specs.Sums.{Set, ◌⊕◌, odd_up_to}
 use Rattle.model.specs.Board.{Board, Inside, edges, first_end, second_end, is_open}
 use Rattle.model.specs.Syndrome.{HasSyndrome}
 use Rattle.model.specs.Components.{within}
 use Rattle.model.specs.Growth.{oddly_lit, holds_open, odd}
-use Rattle.model.proofs.Xor.{and_left, and_right, and_both, not_true_false}
+use Rattle.model.proofs.Xor.{and_left, and_right}
 use Rattle.model.proofs.SumLaws.{odd_cong, some_none, none_some, some_cong}
 use Rattle.theory.proofs.Syndromes.{Avoids, Sealed, cut_syndrome}
 
@@ -28,8 +29,8 @@ module _ (B : Board) (l : List ℕ) where
   unfolding holds_open
   avoids_open a p =
       record {
-        shut = λ v h i. not_true_false (is_open B v)
-            (λ o. true≢false (sym (and_both (is_open B v) (within l a v) o i) ∙ some_none B.vertices (λ v. is_open B v && within l a v) p v h));
+        shut = λ v h i. false_from_ne_true (is_open B v)
+            (λ o. true≢false (sym (and_from (is_open B v) (within l a v) o i) ∙ some_none B.vertices (λ v. is_open B v && within l a v) p v h));
       }
 
   -- where no vertex is open, none holds one, and to be odd is to be oddly lit
@@ -48,7 +49,7 @@ module _ (B : Board) (l : List ℕ) where
 
     pub lit_odd : oddly_lit B l S a ≡ true → holds_open B l a ≡ false → odd B l S a ≡ true
     unfolding odd
-    lit_odd p q = and_both (oddly_lit B l S a) (not (holds_open B l a)) p (ap not q)
+    lit_odd p q = and_from (oddly_lit B l S a) (not (holds_open B l a)) p (ap not q)
 
     pub even_lit : oddly_lit B l S a ≡ false → odd B l S a ≡ false
     unfolding odd
@@ -64,11 +65,7 @@ module _ (B : Board) (l : List ℕ) where
 
     pub sealed_odd : Sealed B → odd B l S a ≡ oddly_lit B l S a
     unfolding odd
-    sealed_odd w = rw (sealed_holds w a) (go (oddly_lit B l S a))
-      where
-        go : (t : Bool) → (t && true) ≡ t
-        go true = refl
-        go false = refl
+    sealed_odd w = rw (sealed_holds w a) (and-true (oddly_lit B l S a))
 
     -- the cut around an odd part
     pub odd_cut : Inside B → (E : Set) → HasSyndrome B E S → odd B l S a ≡ true

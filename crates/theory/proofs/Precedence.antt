@@ -9,6 +9,7 @@ use mathlib.Core.Option.{Option, none, some, none-ne-some, some-ne-none}
 use native.Mathlib.Omega.{arith}
 use borrow.Author.Tests.{eq-eqb}
 use lib.Dec.{eqb}
+use Rattle.std.proofs.lemmas.Bool.{or_right}
 use Rattle.model.specs.declared.refusal.Refusal.{Refusal}
 use Rattle.model.specs.Sums.{Set, first_up_to}
 use Rattle.model.specs.Refusals.{Rule, whole, each, Test, refused_at, tested, refusal_of, number_of, place_of}
@@ -205,11 +206,7 @@ applies_one_of [] [] h r a = absurd (empty_applies r a)
 applies_one_of (n ∷ ns) [] h r a = absurd h
 applies_one_of [] (R ∷ rules) h r a = absurd h
 applies_one_of (n ∷ ns) (R ∷ rules) h r (here b) = rw (eq-eqb (number_of r) n (its_number n R h.0 r b))
-applies_one_of (n ∷ ns) (R ∷ rules) h r (there a) = or_right (eqb (number_of r) n) (applies_one_of ns rules h.1 r a)
-  where
-    or_right : (x : Bool) {y : Bool} → y ≡ true → (x || y) ≡ true
-    or_right true q = refl
-    or_right false q = q
+applies_one_of (n ∷ ns) (R ∷ rules) h r (there a) = or_right (eqb (number_of r) n) _ (applies_one_of ns rules h.1 r a)
 
 -- Theorem: a number that is none of the list's is given only where nothing of the list applies.
 pub other_number : {ns : List ℕ} {rules : List Rule} → Numbered ns rules → (r : Refusal) → one_of (number_of r) ns ≡ false

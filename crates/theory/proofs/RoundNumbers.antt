@@ -11,11 +11,12 @@ use native.Mathlib.Omega.{arith}
 use borrow.Author.Tests.{eqb-true, eqb-false}
 use lib.ListN.{get_or}
 use lib.Dec.{eqb}
+use Rattle.std.proofs.lemmas.Bool.{false_from_ne_true}
 use Rattle.model.specs.Sums.{Set, ◌⊕◌, bit}
 use Rattle.model.specs.Board.{Board, Inside, edges, first_end, second_end, is_open}
 use Rattle.model.specs.Components.{label, within}
 use Rattle.model.specs.Growth.{start, full, clusters, oddly_lit, holds_open, odd, in_odd, swell}
-use Rattle.model.proofs.Xor.{not_true_false, and_left, and_right}
+use Rattle.model.proofs.Xor.{and_left, and_right}
 use Rattle.model.proofs.SumLaws.{Some, some_found}
 use Rattle.theory.proofs.OddParts.{odd_lit, lit_odd, odd_avoids}
 use Rattle.theory.proofs.Connected.{along, connected_keeps, connected_mono}
@@ -135,7 +136,7 @@ module _ (B : Board) (r : Inside B) (S lost : Set) (s : List ℕ) (w : Supports 
   unfolding clusters oddly_lit holds_open
   turn_odds v h is_odd =
       other (turn v) q (λ p. true≢false (sym (odd_lit B (clusters B next) S (label (clusters B next) v) is_odd)
-      ∙ union_even B r (full s) S A union (λ a k i. not_true_false _ (λ o. none p a k i (shut_odd a k i o)))))
+      ∙ union_even B r (full s) S A union (λ a k i. false_from_ne_true _ (λ o. none p a k i (shut_odd a k i o)))))
     where
       A : Set
       A = within (clusters B next) (label (clusters B next) v)
@@ -154,7 +155,7 @@ module _ (B : Board) (r : Inside B) (S lost : Set) (s : List ℕ) (w : Supports 
       -- the cluster is odd, so that it holds no open vertex, and a part of it holds none
       shut_odd : (a : ℕ) → a < B.vertices → A a ≡ true → oddly_lit B (clusters B s) S a ≡ true → odd B (clusters B s) S a ≡ true
       shut_odd a k i o =
-          lit_odd B (clusters B s) S a o (not_true_false (holds_open B (clusters B s) a) (λ p. outside (some_found B.vertices _ p)))
+          lit_odd B (clusters B s) S a o (false_from_ne_true (holds_open B (clusters B s) a) (λ p. outside (some_found B.vertices _ p)))
         where
           outside : Some B.vertices (λ u. is_open B u && within (clusters B s) a u) → ⊥
           outside u =

@@ -10,6 +10,7 @@ use native.Mathlib.Nat.{le_refl}
 use native.Mathlib.Omega.{arith}
 use borrow.Author.Tests.{eqb-false, eq-eqb}
 use lib.Dec.{eqb}
+use Rattle.std.proofs.lemmas.Bool.{and_from}
 use Rattle.model.specs.Sums.{Set, odd_up_to, count_up_to, some_up_to}
 use Rattle.model.specs.Board.{Board, Inside, edges}
 use Rattle.model.specs.Syndrome.{HasSyndrome}
@@ -19,7 +20,7 @@ use Rattle.model.specs.Growth.{full, clusters, oddly_lit, odd, in_odd, swell}
 use Rattle.model.specs.Identified.{identified}
 use Rattle.model.specs.Rounds.{all_odd}
 use Rattle.model.specs.Demand3.{lost_edges, kept_edges, EveryLoopAbove}
-use Rattle.model.proofs.Xor.{and_right, and_both}
+use Rattle.model.proofs.Xor.{and_right}
 use Rattle.model.proofs.SumLaws.{some_found, count_mono}
 use Rattle.model.proofs.CountLaws.{count_before, count_parity}
 use Rattle.theory.proofs.Options.{passed}
@@ -50,7 +51,7 @@ module _ (B : Board) (r : Inside B) (S lost E : Set) (has : HasSyndrome B E S) w
       let l = clusters B s in
       omega (
         arith,
-        two_members B.vertices (λ c. A c && oddly_lit B l S c) a h (and_both (A a) (oddly_lit B l S a) (eq-eqb part part refl) (odd_lit B l S a o))
+        two_members B.vertices (λ c. A c && oddly_lit B l S c) a h (and_from (A a) (oddly_lit B l S a) (eq-eqb part part refl) (odd_lit B l S a o))
             (sym (union_parity B r (full s) S A union) ∙ sym (sealed_odd B (labels B (λ e. true)) S part shut)
             ∙ part_even B r (λ e. true) E S (λ e k p. refl) has part),
         count_mono B.vertices (λ c. A c && oddly_lit B l S c) (odd B l S) (λ c k p. sealed_odd B l S c shut ∙ and_right (A c) _ p),

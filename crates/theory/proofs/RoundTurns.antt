@@ -10,17 +10,18 @@ use native.Mathlib.Omega.{arith}
 use borrow.Author.Tests.{eqb-true, eqb-false, eq-eqb, ne_eqb}
 use lib.ListN.{get_or}
 use lib.Dec.{eqb}
+use Rattle.std.proofs.lemmas.Bool.{and_from}
+use Rattle.std.specs.Cmp.{both_ways}
 use Rattle.model.specs.Sums.{Set, bit, count_up_to, some_up_to}
 use Rattle.model.specs.Board.{Board, Inside, edges, first_end, second_end}
 use Rattle.model.specs.Syndrome.{HasSyndrome}
 use Rattle.model.specs.Components.{label, within}
 use Rattle.model.specs.Growth.{full, clusters, odd, in_odd, swell}
 use Rattle.model.specs.Identified.{identified}
-use Rattle.model.proofs.Xor.{and_left, and_right, and_both}
+use Rattle.model.proofs.Xor.{and_left, and_right}
 use Rattle.model.proofs.SumLaws.{some_found, some_here, none_some}
 use Rattle.theory.proofs.Connected.{Connected, alone, connected_keeps, EdgesAmong, connected_mono}
 use Rattle.theory.proofs.Components.{part_below, part_connected, connected_part, part_smallest}
-use Rattle.theory.proofs.JoinedLabels.{same_test}
 use Rattle.theory.proofs.OddParts.{odd_within, odd_avoids}
 use Rattle.theory.proofs.GrowthRun.{Fed}
 use Rattle.theory.proofs.WeightedGrowth.{odd_named}
@@ -66,9 +67,9 @@ module _ (B : Board) (r : Inside B) (S lost : Set) (s : List ℕ) (w : Supports 
   pub all_below : (u : ℕ) → u < B.vertices → below B.vertices u ≡ in_odd B l S u
   unfolding clusters
   all_below u h =
-      same_test (below B.vertices u) (in_odd B l S u) (below_odd B.vertices u)
+      both_ways (below B.vertices u) (in_odd B l S u) (below_odd B.vertices u)
       (λ p. some_here B.vertices (label l u) (λ i. odd B l S i && within l i u) (part_below B (full s) u h)
-      (and_both (odd B l S (label l u)) (within l (label l u) u) p (eq-eqb (label l u) (label l u) refl)))
+      (and_from (odd B l S (label l u)) (within l (label l u) u) p (eq-eqb (label l u) (label l u) refl)))
 
   -- one cluster more
   stage_even : (a : ℕ) → odd B l S a ≡ false → stage (suc a) ≡ stage a
@@ -157,7 +158,7 @@ module _ (B : Board) (r : Inside B) (S lost : Set) (s : List ℕ) (w : Supports 
     still : (v : ℕ) → v < B.vertices → within (clusters B (stage a)) a v ≡ within l a v
     unfolding clusters
     still v h =
-        same_test (within (clusters B (stage a)) a v) (within l a v)
+        both_ways (within (clusters B (stage a)) a v) (within l a v)
         (λ p. parted (part_connected B (full (stage a)) r v a h k (eqb-true (label (clusters B (stage a)) v) a p ∙ sym still_named)) ∙ eq-eqb (label l a) a own)
         (λ p. eq-eqb (label (clusters B (stage a)) v) a (connected_part B (full (stage a)) (joined v h p) ∙ still_named))
 

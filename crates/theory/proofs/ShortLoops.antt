@@ -9,12 +9,13 @@ use mathlib.Core.List.{List, [], ◌∷◌}
 use native.Mathlib.Omega.{arith}
 use lib.ListN.{length}
 use lib.Dec.{eqb}
+use Rattle.std.proofs.lemmas.Bool.{false_from_ne_true}
 use Rattle.model.specs.Sums.{Set, ◌⊕◌, odd_up_to}
 use Rattle.model.specs.Board.{Board, edges, first_end, second_end}
 use Rattle.model.specs.Syndrome.{meets, odd_end}
 use Rattle.model.specs.Winding.{winds, size}
 use Rattle.model.specs.Demand3.{EveryLoopAbove}
-use Rattle.model.proofs.Xor.{xor_and, xor_self, xor_comm, not_true_false}
+use Rattle.model.proofs.Xor.{xor_and, xor_self, xor_comm}
 use Rattle.model.proofs.SumLaws.{odd_cong, odd_false, odd_xor, odd_at, count_none}
 use Rattle.theory.proofs.Totals.{xor_through, count_xor, count_at}
 use Rattle.theory.proofs.Syndromes.{even_closed}
@@ -73,8 +74,5 @@ pub loops_above_walks : (B : Board) (k : ℕ) → EveryLoopAbove B k → ShortWa
 loops_above_walks B k r =
     record {
       unmarked = λ u l h p few x.
-          not_true_false (walk_crosses B x l) (λ c. large l few (r.above (passed_oddly l) (walk_winds p x c)));
+          false_from_ne_true (walk_crosses B x l) (λ c. omega (arith, passed_size B l, r.above (passed_oddly l) (walk_winds p x c)));
     }
-  where
-    large : (l : List ℕ) → length l ≤ k → k < size B (passed_oddly l) → ⊥
-    large l few many = omega (arith, passed_size B l)

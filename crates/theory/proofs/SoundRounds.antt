@@ -5,8 +5,6 @@ use mathlib.Core.Path.{◌≡◌, refl, sym, ap, ◌∙◌}
 use mathlib.Core.Bool.{false}
 use mathlib.Core.List.{List}
 use mathlib.Core.Option.{Option, none, some}
-use Rattle.model.specs.declared.answers.RoundsDecoded.{RoundsDecoded}
-use Rattle.model.specs.declared.answers.RoundsDecoded.TheVariants.{RoundsKey, Refused}
 use Rattle.model.specs.Sums.{Set, ones, bytes}
 use Rattle.model.specs.Board.{Board, Inside, Unlit, Sheet, ValidSheet, edges}
 use Rattle.model.specs.Syndrome.{HasSyndrome}
@@ -25,6 +23,8 @@ use Rattle.theory.proofs.RoundGrowth.{rounds_feed}
 use Rattle.theory.proofs.Decodings.{odd_answer, even_answer, key_reached, key_even, corrected_full, corrected_has_syndrome}
 use Rattle.theory.proofs.RoundSpread.{rounds_few, rounds_unwound}
 use Rattle.theory.proofs.SoundKeys.{Cases, IsCorrection, is_inside, few_growths, sound_key}
+use Rattle.model.specs.Answers.{RoundsDecoded, rounds_with}
+use Rattle.std.specs.Prelude.{Ok, Err}
 
 -- Theorem: where there is a correction, the rounds end with no odd cluster.
 pub rounds_even : (X : Sheet) → Inside X.board → Unlit X.board (ones X.syndrome) → smallest_odd X.board (ones X.syndrome) ≡ none
@@ -48,9 +48,14 @@ module _ (X : Sheet) (r : Inside X.board) (E : Set) (has : HasSyndrome X.board E
       rounds_unwound X.board r (ones X.syndrome) (ones X.loss) E has (round_corrected X)
       (corrected_has_syndrome all_odd X r unlit (rounds_feed X.board r (ones X.syndrome)) p) (key_reached all_odd X) (corrected_full all_odd X)
 
+rounds_of : RoundsDecoded → ℕ
+rounds_of (Ok k) = k.rounds
+rounds_of (Err n) = 0
+
 -- a key is no refusal
-rounds_cases : Cases Refused RoundsKey
-rounds_cases = record { apart = λ g k n p. zero_one (cc); count = λ g k h j p. cc }
+rounds_cases : Cases Err rounds_with
+unfolding rounds_of
+rounds_cases = record { apart = λ g k n p. zero_one (cc); count = λ g k h j p. ap rounds_of p }
 
 -- the answer once the tests are passed
 passed_rounds : (X : Sheet) (support correction : List ℕ) → decode_refusal X support correction ≡ none
@@ -83,9 +88,9 @@ module _
     result = d.result ∙ passed_rounds X support correction passed
 
     -- where no part is odd there is a key
-    key : smallest_odd B S ≡ none → r ≡ RoundsKey (rounds X) (size B (round_corrected X))
+    key : smallest_odd B S ≡ none → r ≡ rounds_with (rounds X) (size B (round_corrected X))
     unfolding rounds_or_none
-    key p = result ∙ even_answer Refused (RoundsKey (rounds X) (size B (round_corrected X))) X p
+    key p = result ∙ even_answer Err (rounds_with (rounds X) (size B (round_corrected X))) X p
 
     written : IsCorrection all_odd X (ones correction')
     written =
@@ -96,15 +101,15 @@ module _
         }
 
     -- and only there
-    none_odd : (g k : ℕ) → r ≡ RoundsKey g k → smallest_odd B S ≡ none
+    none_odd : (g k : ℕ) → r ≡ rounds_with g k → smallest_odd B S ≡ none
     unfolding rounds_or_none
     none_odd g k q = go (smallest_odd B S) refl
       where
         go : (o : Option ℕ) → smallest_odd B S ≡ o → smallest_odd B S ≡ none
         go none p = p
         go (some v) p =
-            let is : RoundsKey g k ≡ Refused (none_at v)
-            = sym q ∙ result ∙ odd_answer Refused (RoundsKey (rounds X) (size B (round_corrected X))) X v p in
+            let is : rounds_with g k ≡ Err (none_at v)
+            = sym q ∙ result ∙ odd_answer Err (rounds_with (rounds X) (size B (round_corrected X))) X v p in
             zero_one (cc)
 
     -- Whatever meets the outcome on a sheet that passes the tests may be relied on.
@@ -113,7 +118,7 @@ module _
     rounds_sound =
         record {
           key =
-              sound_key all_odd X range valid.unlit feeds Refused RoundsKey rounds_cases (ones correction') written
+              sound_key all_odd X range valid.unlit feeds Err rounds_with rounds_cases (ones correction') written
               (λ rounds E. rounds ≤ 2 * kept_edges B (ones X.loss) E) (λ p. rounds_bound X range valid.unlit) r result;
           inside = λ g k q e h p.
               let even = none_odd g k q in

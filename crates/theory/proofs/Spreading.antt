@@ -10,12 +10,13 @@ use native.Mathlib.Omega.{arith}
 use borrow.Author.Tests.{eqb-true, eqb-false, ne_eqb, not-true}
 use lib.ListN.{get_or}
 use lib.Dec.{eqb}
+use Rattle.std.proofs.lemmas.Bool.{and_from}
 use Rattle.model.specs.Sums.{Set, bit}
 use Rattle.model.specs.Board.{Board, Inside, edges, first_end, second_end}
 use Rattle.model.specs.Winding.{winds, size}
 use Rattle.model.specs.Growth.{start, full, swell}
 use Rattle.model.specs.Demand3.{lost_edges, EveryLoopAbove}
-use Rattle.model.proofs.Xor.{and_left, and_right, and_both}
+use Rattle.model.proofs.Xor.{and_left, and_right}
 use Rattle.theory.proofs.Syndromes.{Sealed}
 use Rattle.theory.proofs.Connected.{Connected, connected_keeps}
 use Rattle.theory.proofs.CrossedLines.{Closed}
@@ -128,7 +129,7 @@ module _ (B : Board) (r : Inside B) (T : ℕ) (short : ShortWalksUnmarked B T) w
       where
         settled : (e : ℕ) → e < edges B → full next e ≡ true → (t : Bool) → full s e ≡ t → Settled B inserted.clustering e
         settled e l p true q = inserted.keeps e (b.settles e l q)
-        settled e l p false q = inserted.settles e l (and_both _ (not (full s e)) p (ap not q))
+        settled e l p false q = inserted.settles e l (and_from _ (not (full s e)) p (ap not q))
 
 -- After g growths there are books with t + g of credit, as long as T allows that.
 spread_books : (B : Board) → Inside B → (T : ℕ) → ShortWalksUnmarked B T → (lost : Set) {s : List ℕ} {g : ℕ} → Spread B lost s g

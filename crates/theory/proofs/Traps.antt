@@ -1,12 +1,14 @@
 -- Traps (model, Traps): the sheet handed out after a set was flipped has a correction; t + 2s of a trap is no smaller than the distance; and
 -- every winding loop is a trap, so that there is a trap exactly where a loop winds. Assumes nothing.
-use Prim.Native.Nat.{ℕ, ◌+◌, ◌*◌, ◌≤◌, ◌<◌}
+use Prim.Native.Nat.{ℕ, ◌+◌, ◌*◌, ◌≤◌}
 use mathlib.Core.Path.{◌≡◌, refl, sym, ap, ◌∙◌}
 use mathlib.Core.Bool.{true, false, false≢true}
 use mathlib.Core.List.{List}
 use mathlib.Core.Option.{Option, none, some}
+use native.Mathlib.Nat.{lt_of_lt_of_le}
 use native.Mathlib.Decide.{dec_lt}
 use native.Mathlib.Omega.{arith}
+use Rattle.std.proofs.lemmas.Bool.{false_from_ne_true}
 use Rattle.model.specs.Sums.{Set, ◌⊕◌, bit, ones, bytes}
 use Rattle.model.specs.Board.{Board, Inside, Valid, ValidBytes, ValidSheet, Unlit, edges}
 use Rattle.model.specs.Syndrome.{syndrome, HasSyndrome}
@@ -16,7 +18,7 @@ use Rattle.model.specs.Decoding.{smallest_odd, grown_by, peeled, corrected}
 use Rattle.model.specs.Demand3.{EveryLoopAbove, lost_edges, kept_edges}
 use Rattle.model.specs.Distance.{fewest}
 use Rattle.model.specs.Traps.{flipped_sheet, traps, fewest_trap}
-use Rattle.model.proofs.Xor.{xor_false, not_true_false}
+use Rattle.model.proofs.Xor.{xor_false}
 use Rattle.model.proofs.ListLaws.{values_cong, ones_bytes, bytes_valid}
 use Rattle.theory.proofs.Syndromes.{syndrome_cong, open_syndrome}
 use Rattle.theory.proofs.CrossedLines.{winds_cong, winds_closed}
@@ -78,11 +80,8 @@ module _ (B : Board) (loss : List ℕ) where
     unfolding traps
     trap_heavy E d p is =
         elim (dec_lt (lost_edges B (ones loss) + 2 * kept_edges B (ones loss) E) d)
-        [ yes h ↦ absurd (false≢true (sym (unwound (record { above = λ D w. above h ((fewest_least B d is).least D w) })) ∙ p)) | no h ↦ omega arith ]
+        [ yes h ↦ absurd (false≢true (sym (unwound (record { above = λ D w. lt_of_lt_of_le h ((fewest_least B d is).least D w) })) ∙ p)) | no h ↦ omega arith ]
       where
-        above : {a b c : ℕ} → a < b → b ≤ c → a < c
-        above h l = omega arith
-
         unwound : EveryLoopAbove B (lost_edges B (ones loss) + 2 * kept_edges B (ones loss) E)
             → winds B (together E (corrected (flipped_sheet B loss E))) ≡ false
         unwound w =
@@ -102,7 +101,7 @@ module _ (B : Board) (loss : List ℕ) where
 
   -- so there is a trap exactly where a loop winds
   pub untrapped_loopless : ((E : Set) → traps B loss E ≡ false) → fewest B ≡ none
-  untrapped_loopless out = none_fewest B (λ D. not_true_false (winds B D) (λ w. false≢true (sym (out D) ∙ loop_traps D w)))
+  untrapped_loopless out = none_fewest B (λ D. false_from_ne_true (winds B D) (λ w. false≢true (sym (out D) ∙ loop_traps D w)))
 
   -- The fewest edges of a trap
 

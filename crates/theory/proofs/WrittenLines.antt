@@ -2,7 +2,6 @@
 -- Assumes nothing.
 use Prim.Native.Nat.{ℕ, zero, suc, ◌+◌, ◌*◌, ◌≤◌, ◌<◌}
 use mathlib.Core.Path.{◌≡◌, refl, sym, ap, subst, ◌∙◌}
-use mathlib.Core.Logic.{◌≢◌}
 use mathlib.Core.Bool.{Bool, true, false, true≢false}
 use mathlib.Core.List.{List, [], ◌∷◌, ◌++◌, map, map-append, append-nil, append_assoc}
 use mathlib.Core.Option.{some}
@@ -12,10 +11,10 @@ use native.Mathlib.Numerals.{add-one}
 use borrow.Author.Tests.{lt-ltb, eqb-true, eqb-false}
 use lib.ListN.{length, get_or, take, set, replicate, replicate-append-replicate}
 use lib.Seq.{take-suc, take_all, take-length, length-take-le}
+use Rattle.std.proofs.lemmas.Bool.{false_from_ne_true}
 use Rattle.model.specs.Sums.{values, ones, members}
 use Rattle.model.specs.Board.{board_of, without_open, Sheet, sheet_of, ValidBytes, ValidSheet, edges, first_end, second_end, mark, is_open}
 use Rattle.model.specs.Text.{Line, V_line, O_line, S_line, X_line, edge_line, lines_of, begun, edge_may_follow, with_edge, open_may_follow, syndrome_may_follow, loss_may_follow, step}
-use Rattle.model.proofs.Xor.{not_true_false}
 use Rattle.model.proofs.ListLaws.{values_last}
 use Rattle.theory.proofs.MarkedBytes.{up_to, up_to_none, up_to_all, up_to_unmarked, up_to_marked}
 use Rattle.theory.proofs.AddedEdges.{Addable, range_in, fit_lines}
@@ -137,11 +136,8 @@ module _ (Ok : ℕ → Line → Type 0) (f : ℕ → Line) (F : List ℕ → She
           steps k last (up_to k n l) h e ok ∙ ap (λ s. some (F s)) (sym (up_to_marked k n l valid.count h (eqb-true _ 1 e))))
       go false e =
           passes (rw e (ap (map f) (append-nil (members k (ones l)))))
-          (ap F (up_to_unmarked k n l valid.count h (unmarked (get_or l k 0) (valid.each k h) (eqb-false (get_or l k 0) 1 e))))
+          (ap F (up_to_unmarked k n l valid.count h (omega (arith, valid.each k h, eqb-false (get_or l k 0) 1 e))))
           (later k)
-        where
-          unmarked : (x : ℕ) → x ≤ 1 → x ≢ 1 → x ≡ 0
-          unmarked x p q = omega arith
 
 -- where an open vertex from v on may follow; where a syndrome vertex from v on may; where a lost edge from e on may
 abbrev OpenNext : ℕ → Line → Type 0
@@ -185,7 +181,7 @@ open_turn X w =
 
 -- a vertex of the syndrome is not open
 lit_shut : (X : Sheet) → ValidSheet X → (v : ℕ) → v < X.board.vertices → ones X.syndrome v ≡ true → is_open X.board v ≡ false
-lit_shut X w v h e = not_true_false (is_open X.board v) (λ o. true≢false (sym e ∙ w.unlit v h o))
+lit_shut X w v h e = false_from_ne_true (is_open X.board v) (λ o. true≢false (sym e ∙ w.unlit v h o))
 
 syndrome_turn : (X : Sheet) → ValidSheet X → (v : ℕ) → v < X.board.vertices → Turn SyndromeNext (syndrome_lines X) (with_lit X) v
 unfolding step

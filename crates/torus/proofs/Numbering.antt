@@ -2,11 +2,9 @@
 -- Assumes nothing.
 use Prim.Native.Nat.{ℕ, ◌+◌, ◌*◌, ◌≤◌, ◌<◌}
 use native.Mathlib.Nat.{mod-lt, mul-le-mul, div-lt_iff_lt-mul}
-use native.Mathlib.Omega.{arith}
 use lib.Arith.{digits_lt}
 use Rattle.model.specs.Board.{vertex_limit}
 use Rattle.model.specs.Torus.{largest_side, row, column, right_of, below}
-use Rattle.torus.specs.Sides.{SideWithin}
 
 pub row_less : (L v : ℕ) → 0 < L → v < L * L → row L v < L
 row_less L v some h = (div-lt_iff_lt-mul some).1 h
@@ -20,9 +18,3 @@ below_less L v some = digits_lt (mod-lt (row L v + 1) some) (mod-lt v some)
 -- a torus that is built has no more vertices than a board may have, so each neighbour's number is within the limit
 pub square_limit : (L : ℕ) → L ≤ largest_side → L * L ≤ vertex_limit
 square_limit L h = mul-le-mul h h
-
-pub right_limit : (L v : ℕ) → SideWithin L → v < L * L → right_of L v < vertex_limit
-right_limit L v w h = omega (arith, right_less L v (omega arith) h, square_limit L w.most)
-
-pub below_limit : (L v : ℕ) → SideWithin L → below L v < vertex_limit
-below_limit L v w = omega (arith, below_less L v (omega arith), square_limit L w.most)

@@ -1,47 +1,46 @@
--- A side outside the range is refused with number 11, whatever is tested after it; a side in range passes. Assumes nothing.
-use Prim.Native.Nat.{ℕ, ◌*◌, ◌≤◌, ◌<◌}
-use mathlib.Core.Path.{◌≡◌, ap}
-use mathlib.Core.Bool.{◌&&◌}
-use mathlib.Core.List.{List, [], ◌∷◌}
+-- A number outside its range is refused, whatever is tested after it, and one in range passes; so it is with the side of a torus, whose
+-- number is 11. Assumes nothing.
+use Prim.Native.Nat.{ℕ, ◌≤◌}
+use mathlib.Core.Path.{◌≡◌, refl, ap}
+use mathlib.Core.Bool.{Bool, true, false, ◌&&◌}
+use mathlib.Core.List.{List, ◌∷◌, map}
 use mathlib.Core.Option.{none, some}
-use borrow.Author.Tests.{le-leb, lt-leb, leb-true}
+use borrow.Author.Tests.{le-leb, leb-true}
 use lib.Dec.{leb}
+use Rattle.model.specs.declared.refusal.Refusal.{Refusal}
 use Rattle.model.specs.declared.refusal.Refusal.TheVariants.{TorusSide}
-use Rattle.model.specs.declared.answers.Built.TheVariants.{Vertices, Refused}
 use Rattle.model.specs.Torus.{least_side, largest_side}
-use Rattle.model.specs.Refusals.{Rule, tested, refusal_of, sized, side_rule, length_rule, torus_refusal}
-use Rattle.model.specs.Outcomes.{answer, torus_answer}
+use Rattle.model.specs.Refusals.{Rule, whole, unless, tested, first_failure, refusal_of, side_rule}
 use Rattle.model.proofs.RuleLists.{unless_passes}
 use Rattle.model.proofs.Xor.{and_left, and_right}
 use Rattle.torus.specs.Sides.{SideWithin}
 
-module _ (L : ℕ) (rules : List Rule) where
-  pub small_refused : L < least_side → refusal_of (side_rule L ∷ rules) ≡ some (TorusSide L)
-  small_refused h = rw (lt-leb least_side L h)
+module _ (r : Refusal) (least most n : ℕ) where
+  abbrev kept : Bool
+  kept = leb least n && leb n most
 
-  pub large_refused : least_side ≤ L → largest_side < L → refusal_of (side_rule L ∷ rules) ≡ some (TorusSide L)
-  large_refused least h = rw (le-leb least_side L least, lt-leb L largest_side h)
+  passed_in_range : unless kept r ≡ none → (least ≤ n) × (n ≤ most)
+  passed_in_range p =
+      let both = unless_passes kept r p in
+      (leb-true least n (and_left (leb least n) (leb n most) both), leb-true n most (and_right (leb least n) (leb n most) both))
 
-  pub within_passes : SideWithin L → refusal_of (side_rule L ∷ rules) ≡ refusal_of rules
-  within_passes w = rw (le-leb least_side L w.least, le-leb L largest_side w.most)
+  pub out_of_range : (rules : List Rule) → ((least ≤ n) × (n ≤ most) → ⊥) → refusal_of (whole kept r ∷ rules) ≡ some r
+  out_of_range rules out = go kept refl
+    where
+      go : (b : Bool) → kept ≡ b → first_failure (unless b r ∷ map tested rules) ≡ some r
+      go true p = absurd (out (passed_in_range (ap (λ b. unless b r) p)))
+      go false p = refl
+
+  pub in_range : (rules : List Rule) → (least ≤ n) × (n ≤ most) → refusal_of (whole kept r ∷ rules) ≡ refusal_of rules
+  in_range rules w = rw (le-leb least n w.0, le-leb n most w.1)
 
 pub passed_within : (L : ℕ) → tested (side_rule L) ≡ none → SideWithin L
 passed_within L p =
-    let in_range = unless_passes (leb least_side L && leb L largest_side) (TorusSide L) p in
-    record {
-      least = leb-true least_side L (and_left (leb least_side L) (leb L largest_side) in_range);
-      most = leb-true L largest_side (and_right (leb least_side L) (leb L largest_side) in_range);
-    }
+    let w = passed_in_range (TorusSide L) least_side largest_side L p in record { least = w.0; most = w.1 }
 
--- so it is with the builder
-module _ (L : ℕ) (ends marks : List ℕ) where
-  abbrev lengths : List Rule
-  lengths = length_rule (sized ends (4 * (L * L)) && sized marks (2 * (L * L))) ∷ []
+module _ (L : ℕ) (rules : List Rule) where
+  pub outside_refused : (SideWithin L → ⊥) → refusal_of (side_rule L ∷ rules) ≡ some (TorusSide L)
+  outside_refused out = out_of_range (TorusSide L) least_side largest_side L rules (λ w. out (record { least = w.0; most = w.1 }))
 
-  pub side_too_small : L < least_side → torus_answer L ends marks ≡ Refused (TorusSide L)
-  unfolding torus_answer torus_refusal
-  side_too_small h = ap (λ t. answer t Refused (Vertices (L * L))) (small_refused L lengths h)
-
-  pub side_too_large : least_side ≤ L → largest_side < L → torus_answer L ends marks ≡ Refused (TorusSide L)
-  unfolding torus_answer torus_refusal
-  side_too_large least h = ap (λ t. answer t Refused (Vertices (L * L))) (large_refused L lengths least h)
+  pub within_passes : SideWithin L → refusal_of (side_rule L ∷ rules) ≡ refusal_of rules
+  within_passes w = in_range (TorusSide L) least_side largest_side L rules (w.least, w.most)

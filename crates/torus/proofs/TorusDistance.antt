@@ -8,13 +8,13 @@ use native.Mathlib.Omega.{arith}
 use borrow.Author.Tests.{eq-eqb}
 use lib.Arith.{digits_lt, digits_div, digits_mod}
 use lib.Dec.{eqb}
+use Rattle.std.proofs.lemmas.Bool.{true_from_ne_false, and_from}
 use Rattle.model.specs.Sums.{Set}
 use Rattle.model.specs.Board.{edges}
 use Rattle.model.specs.Winding.{winds, size}
 use Rattle.model.specs.Distance.{fewest}
 use Rattle.model.specs.Torus.{row, column, torus}
 use Rattle.model.specs.Faces.{first_kind, second_kind}
-use Rattle.model.proofs.Xor.{not_false_true, and_both}
 use Rattle.model.proofs.SumLaws.{Some}
 use Rattle.model.proofs.CountLaws.{one_of_each}
 use Rattle.theory.proofs.OddMembers.{odd_found}
@@ -43,7 +43,7 @@ module _ (L : ℕ) (side : 1 ≤ L) (D : Set) where
         at = first_kind v;
         less = omega (arith, edge_count L, digits_lt x.less h);
         holds =
-            and_both (D (first_kind v)) (eqb (column_of L (first_kind v)) c) x.holds
+            and_from (D (first_kind v)) (eqb (column_of L (first_kind v)) c) x.holds
             (eq-eqb (column_of L (first_kind v)) c (ap (column L) (half_even v) ∙ digits_mod x.at h));
       }
 
@@ -57,7 +57,7 @@ module _ (L : ℕ) (side : 1 ≤ L) (D : Set) where
         at = second_kind v;
         less = omega (arith, edge_count L, digits_lt h x.less);
         holds =
-            and_both (D (second_kind v)) (eqb (row_of L (second_kind v)) r) x.holds
+            and_from (D (second_kind v)) (eqb (row_of L (second_kind v)) r) x.holds
             (eq-eqb (row_of L (second_kind v)) r (ap (row L) (half_odd v) ∙ digits_div r x.less));
       }
 
@@ -73,7 +73,7 @@ module _ (L : ℕ) (side : 1 ≤ L) (D : Set) where
       unmarked p q line_b = q
 
       other_line : crosses_oddly (torus L) line_a D ≡ false → crosses_oddly (torus L) line_b D ≡ true
-      other_line p = not_false_true _ (λ q. false≢true (sym (unmarked_unwound (torus L) D (unmarked p q)) ∙ w))
+      other_line p = true_from_ne_false _ (λ q. false≢true (sym (unmarked_unwound (torus L) D (unmarked p q)) ∙ w))
 
       go : (t : Bool) → crosses_oddly (torus L) line_a D ≡ t → L ≤ size (torus L) D
       go true p = one_of_each (edges (torus L)) D (column_of L) L (column_edge shut p)

@@ -1,13 +1,11 @@
--- What one turn of each of the builder's loops writes: the ends, or the marks, of one vertex's two edges. Assumes nothing.
-use Prim.Native.Nat.{ℕ, ◌+◌, ◌*◌, ◌-◌, ◌<◌}
+-- What one turn of the builder's loop over the vertices writes: the ends of one vertex's two edges. Assumes nothing.
+use Prim.Native.Nat.{ℕ, ◌+◌, ◌*◌, ◌<◌}
 use mathlib.Core.Path.{◌≡◌, refl, sym, ◌∙◌}
-use mathlib.Core.Bool.{cond}
 use mathlib.Core.List.{List}
 use native.Mathlib.Omega.{arith}
 use lib.ListN.{length, set, length-set}
-use lib.Dec.{eqb}
-use Rattle.model.specs.Torus.{row, column, right_of, below, torus_end, torus_mark}
-use Rattle.torus.proofs.Edges.{first_end_lem, second_end_lem, right_to, below_to, right_mark, below_mark}
+use Rattle.model.specs.Torus.{right_of, below, torus_end}
+use Rattle.torus.proofs.Edges.{first_end_lem, second_end_lem, right_to, below_to}
 use Rattle.torus.specs.Filling.{Filled}
 use Rattle.torus.proofs.Filling.{filled_more, filled_to}
 
@@ -35,12 +33,3 @@ ends_more L v l a b w long right down =
     let w₃ = filled_more (4 * v + 2) v w₂ (omega arith) (simp length-set (omega arith)) (end_2 L v) in
     let w₄ = filled_more (4 * v + 3) b w₃ (omega arith) (simp length-set (omega arith)) (down ∙ end_3 L v) in
     filled_to (4 * (v + 1)) w₄ (omega arith)
-
-pub marks_more :
-    (L v : ℕ) (l : List ℕ) (a b : ℕ) → Filled (torus_mark L) (2 * v) l → 2 * v + 1 < length l →
-    a ≡ cond (eqb (column L v) (L - 1)) 1 0 → b ≡ cond (eqb (row L v) (L - 1)) 2 0 →
-    Filled (torus_mark L) (2 * (v + 1)) (set (set l (2 * v) a) (2 * v + 1) b)
-marks_more L v l a b w long right down =
-    let w₁ = filled_more (2 * v) a w refl (omega arith) (right ∙ sym (right_mark L v)) in
-    let w₂ = filled_more (2 * v + 1) b w₁ refl (simp length-set (omega arith)) (down ∙ sym (below_mark L v)) in
-    filled_to (2 * (v + 1)) w₂ (omega arith)

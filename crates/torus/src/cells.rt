@@ -13,8 +13,7 @@ pub fn right_of(side: usize, v: Vertex) -> Vertex
     let number = v.0 as usize;
     let start = number / side * side;
     let column = (number % side + 1) % side;
-    let right = (start + column) as u16;
-    Vertex(right)
+    Vertex((start + column) as u16)
 }
 
 // The vertex below v, in its column.
@@ -25,8 +24,7 @@ pub fn below_of(side: usize, v: Vertex) -> Vertex
     let number = v.0 as usize;
     let row = (number / side + 1) % side;
     let column = number % side;
-    let below = (row * side + column) as u16;
-    Vertex(below)
+    Vertex((row * side + column) as u16)
 }
 
 // The mark of the edge to the right of v: 1 in the last column.
@@ -34,11 +32,7 @@ pub fn right_mark(side: usize, v: Vertex) -> u8
     requires { 0 < side }
     ensures { result ≡ cond (eqb (column side v.0) (side - 1)) 1 0 }
 {
-    if v.0 as usize % side == side - 1 {
-        1
-    } else {
-        0
-    }
+    u8::from(v.0 as usize % side == side - 1)
 }
 
 // The mark of the edge to the vertex below v: 2 in the last row.
@@ -46,9 +40,5 @@ pub fn below_mark(side: usize, v: Vertex) -> u8
     requires { 0 < side }
     ensures { result ≡ cond (eqb (row side v.0) (side - 1)) 2 0 }
 {
-    if v.0 as usize / side == side - 1 {
-        2
-    } else {
-        0
-    }
+    2 * u8::from(v.0 as usize / side == side - 1)
 }

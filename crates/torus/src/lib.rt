@@ -2,6 +2,7 @@
 #![tactic(auto)]
 
 pub mod cells;
+pub mod sides;
 
 ghost use Rattle.std.specs.Prelude.{◌≡◌, ◌*◌, length};
 ghost use Rattle.model.specs.Torus.{torus_ends, torus_marks};
@@ -9,25 +10,24 @@ ghost use Rattle.model.specs.Outcomes.{Builds};
 ghost use Rattle.torus.specs.Sides.{SideWithin};
 
 use crate::cells::{below_mark, below_of, right_mark, right_of};
-use model::answers::Built;
-use model::limits::{LARGEST_SIDE, LEAST_SIDE};
+use crate::sides::is_built;
 use model::numbers::Vertex;
 use model::refusal::Refusal;
 
 // The torus of side L: the vertex count, with 4L² ends and 2L² marks filled in; or a refusal, with nothing written.
-pub fn torus(side: usize, ends: &mut [u16], marks: &mut [u8]) -> Built
+pub fn torus(side: usize, ends: &mut [u16], marks: &mut [u8]) -> Result<usize, Refusal>
     ensures { Builds side ends.old marks.old result ends.new marks.new }
 {
-    if side < LEAST_SIDE || side > LARGEST_SIDE {
-        return Built::Refused(Refusal::TorusSide(side));
+    if !is_built(side) {
+        return Err(Refusal::TorusSide(side));
     }
     let vertices = side * side;
     if ends.len() != 4 * vertices || marks.len() != 2 * vertices {
-        return Built::Refused(Refusal::BufferLength);
+        return Err(Refusal::BufferLength);
     }
     fill_ends(side, ends);
     fill_marks(side, marks);
-    Built::Vertices(vertices)
+    Ok(vertices)
 }
 
 // Both edges of each vertex in turn: to its right, then below.
@@ -36,10 +36,8 @@ pub fn fill_ends(side: usize, ends: &mut [u16])
     ensures { ends.new ≡ torus_ends side }
 {
     let vertices = side * side;
-    let mut v = 0;
-    while v < vertices {
-        let number = v as u16;
-        let vertex = Vertex(number);
+    for v in 0..vertices {
+        let vertex = Vertex(v as u16);
         let right = right_of(side, vertex);
         let below = below_of(side, vertex);
         let i = 4 * v;
@@ -47,7 +45,6 @@ pub fn fill_ends(side: usize, ends: &mut [u16])
         ends[i + 1] = right.0;
         ends[i + 2] = vertex.0;
         ends[i + 3] = below.0;
-        v += 1;
     }
 }
 
@@ -57,13 +54,10 @@ pub fn fill_marks(side: usize, marks: &mut [u8])
     ensures { marks.new ≡ torus_marks side }
 {
     let vertices = side * side;
-    let mut v = 0;
-    while v < vertices {
-        let number = v as u16;
-        let vertex = Vertex(number);
+    for v in 0..vertices {
+        let vertex = Vertex(v as u16);
         let i = 2 * v;
         marks[i] = right_mark(side, vertex);
         marks[i + 1] = below_mark(side, vertex);
-        v += 1;
     }
 }

@@ -3,8 +3,6 @@
 
 ghost use Rattle.std.specs.Prelude.{◌≤◌};
 
-use model::answers::Built;
-use model::refusal::{number, place};
 use std::io;
 
 fn main(rt: HostRuntime) -> io::Result<()> {
@@ -46,18 +44,18 @@ fn show(
 ) -> io::Result<()> {
     print(rt, side as u64, b"\t")?;
     match torus::torus(side, ends, marks) {
-        Built::Vertices(vertices) => {
+        Ok(vertices) => {
             rt.write_all(b"V\t")?;
             print(rt, vertices as u64, b"\t")?;
         }
-        Built::Refused(refusal) => {
+        Err(refusal) => {
             rt.write_all(b"N\t")?;
-            print(rt, number(refusal) as u64, b"\t")?;
-            print(rt, place(refusal) as u64, b"\t")?;
+            print(rt, refusal.number() as u64, b"\t")?;
+            print(rt, refusal.place() as u64, b"\t")?;
         }
     }
-    print(rt, sum_ends(ends), b"\t")?;
-    print(rt, sum_marks(marks), b"\n")?;
+    print(rt, sum(ends), b"\t")?;
+    print(rt, sum(marks), b"\n")?;
     if listed {
         list(rt, ends, marks)?;
     }
@@ -69,43 +67,20 @@ fn print(rt: &impl Print, n: u64, after: &[u8]) -> io::Result<()> {
     rt.write_all(after)
 }
 
-fn wide(x: u16) -> u64 {
-    x as u64
-}
-
-fn wide_byte(x: u8) -> u64 {
-    x as u64
-}
-
-fn sum_ends(ends: &[u16]) -> u64 {
+// The sum of ends or of marks.
+fn sum<T: Copy + Into<u64>>(numbers: &[T]) -> u64 {
     let mut sum: u64 = 0;
-    let mut i = 0;
-    while i < ends.len() {
-        sum = std::num::wrapping_add_u64(sum, wide(ends[i]));
-        i += 1;
-    }
-    sum
-}
-
-fn sum_marks(marks: &[u8]) -> u64 {
-    let mut sum: u64 = 0;
-    let mut i = 0;
-    while i < marks.len() {
-        sum = std::num::wrapping_add_u64(sum, wide_byte(marks[i]));
-        i += 1;
+    for x in numbers {
+        sum = sum.wrapping_add((*x).into());
     }
     sum
 }
 
 // A line for each edge: its two ends and its mark.
 fn list(rt: &impl Print, ends: &[u16], marks: &[u8]) -> io::Result<()> {
-    let mut e = 0;
-    while e < marks.len() {
-        let i = 2 * e;
-        if i + 1 < ends.len() {
-            edge(rt, ends[i], ends[i + 1], marks[e])?;
-        }
-        e += 1;
+    let (pairs, _) = ends.as_chunks::<2>();
+    for (pair, mark) in pairs.iter().zip(marks) {
+        edge(rt, pair[0], pair[1], *mark)?;
     }
     Ok(())
 }

@@ -5,7 +5,6 @@ use mathlib.Core.Path.{◌≡◌, refl, sym, ap, ◌∙◌}
 use mathlib.Core.Bool.{Bool, true, false, not, false≢true}
 use mathlib.Core.List.{List}
 use lib.Dec.{eqb}
-use lib.ListN.{length}
 use Rattle.model.specs.declared.answers.Verdict.{Verdict}
 use Rattle.model.specs.declared.answers.Verdict.TheVariants.{Wound}
 use Rattle.model.specs.Sums.{ones, bytes}
@@ -19,7 +18,7 @@ use Rattle.model.specs.Traps.{flipped_sheet, traps}
 use Rattle.theory.proofs.VerdictGround.{winds_together, has_differs}
 use Rattle.theory.proofs.Traps.{flipped_lit, flipped_has, flipped_valid, flipped_even, flipped_corrected}
 use Rattle.board.proofs.Calls.{passes_verdict}
-use Rattle.verdict.specs.Judging.{is_wound, Comparable, Compares}
+use Rattle.verdict.specs.Judging.{is_wound, Compares}
 use Rattle.verdict.proofs.VerdictAnswers.{passed_verdict, judged_verdict}
 use Rattle.trap.specs.Settable.{Settable}
 
@@ -59,16 +58,6 @@ module _ (B : Board) (loss : List ℕ) (s : Settable B loss) (flipped : List ℕ
 
   -- The same where the syndrome stands in other bytes
   module _ {lit : List ℕ} (is : lit ≡ bytes B.vertices (syndrome B (ones flipped))) {support correction : List ℕ} where
-    pub flipped_comparable : length support ≡ edges B → length correction ≡ edges B → Comparable (sheet_of B lit loss) flipped support correction
-    flipped_comparable long also =
-        rw is
-        (record {
-          sheet = flipped_valid B loss (ones flipped) s.board s.losses;
-          handed_bytes = valid;
-          support_long = long;
-          correction_long = also;
-        })
-
     pub compared_trap : {r : Verdict} {support' correction' : List ℕ} → Compares (sheet_of B lit loss) flipped support correction r support' correction'
         → is_wound r ≡ traps B loss (ones flipped)
     compared_trap c = ap is_wound (c.judges.result ∙ ap (λ l. verdict_answer (sheet_of B l loss) flipped) is) ∙ wound_trap

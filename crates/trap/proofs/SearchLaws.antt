@@ -12,14 +12,12 @@ use borrow.Author.Tests.{eqb-true, eq-eqb, ne_eqb}
 use lib.Count as counted
 use lib.Dec.{eqb}
 use lib.ListN.{length}
-use lib.Pow.{pow_mono}
 use Rattle.model.specs.Sums.{Set, bytes, ones, count_up_to, first_up_to}
 use Rattle.model.specs.Board.{Board, Inside, edges}
 use Rattle.model.specs.Words.{bit_of, number_with}
 use Rattle.model.specs.Winding.{size}
 use Rattle.model.specs.Demand3.{lost_edges, kept_edges}
 use Rattle.model.specs.Distance.{fewest}
-use Rattle.model.specs.Refusals.{trap_limit}
 use Rattle.model.specs.Traps.{traps}
 use Rattle.model.proofs.Xor.{and_left, and_right}
 use Rattle.model.proofs.ListLaws.{length_values}
@@ -27,10 +25,6 @@ use Rattle.model.proofs.SumLaws.{count_cong, count_mono, none_first, first_found
 use Rattle.theory.proofs.BitLaws.{ones_counted, number_below, number_bit}
 use Rattle.theory.proofs.Traps.{traps_cong, trap_heavy, loop_traps, least_trap}
 use Rattle.trap.specs.Searching.{trap_of_size, LeastSize, ShowsShortest, ShowsSmallest}
-
--- there are at most 65,536 masks
-pub few_masks : (m : ℕ) → m ≤ trap_limit → 2 ^ m ≤ 2 ^ trap_limit
-few_masks m few = pow_mono {i = m} {j = trap_limit} few
 
 -- no trap has fewer than k edges
 pub record NoneBelow (B : Board) (loss : List ℕ) (k : ℕ) : Type 0 where

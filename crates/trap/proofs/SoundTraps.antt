@@ -6,10 +6,6 @@ use mathlib.Core.List.{List}
 use mathlib.Core.Option.{Option, none, some}
 use lib.ListN.{length}
 use Rattle.model.specs.declared.refusal.Refusal.{Refusal}
-use Rattle.model.specs.declared.answers.Decoded.{Decoded}
-use Rattle.model.specs.declared.answers.Decoded.TheVariants.{Key}
-use Rattle.model.specs.declared.answers.Trap.{Trap}
-use Rattle.model.specs.declared.answers.Trap.TheVariants.{Fewest, Nothing, Refused}
 use Rattle.model.specs.Sums.{◌⊕◌, ones, bytes}
 use Rattle.model.specs.Board.{Board, Sheet, ValidBytes, edges}
 use Rattle.model.specs.Winding.{winds, together, size}
@@ -29,6 +25,8 @@ use Rattle.theory.proofs.TrapHalves.{trap_half}
 use Rattle.board.proofs.Calls.{passes_decode}
 use Rattle.trap.specs.Settable.{Settable}
 use Rattle.trap.proofs.FlippedVerdicts.{trap_verdict}
+use Rattle.model.specs.Answers.{Decoded, Trap, key_with}
+use Rattle.std.specs.Prelude.{Ok, Err, Some, None}
 
 -- A set that is shown, by its bytes
 
@@ -51,13 +49,13 @@ module _ (B : Board) (loss : List ℕ) (s : Settable B loss) (l : List ℕ) (tra
   X = flipped_sheet B loss (ones l)
 
   key_given : (support correction : List ℕ) (q : Decoded) (support' correction' : List ℕ) → length support ≡ edges B → length correction ≡ edges B
-      → Decodes X support correction q support' correction' → q ≡ Key (growths X) (size B (corrected X))
+      → Decodes X support correction q support' correction' → q ≡ key_with (growths X) (size B (corrected X))
   key_given support correction q support' correction' long also d =
       let sheet = flipped_valid B loss (ones l) s.board s.losses in
       let passed = passes_decode X support correction (record { sheet = sheet; support_long = long; correction_long = also }) in
       d.result ∙ passed_answer X support correction passed ∙ key_answer X (flipped_even B loss (ones l) s.board.inside)
 
-  key_winds : (correction q' : List ℕ) (q : Decoded) → q ≡ Key (growths X) (size B (corrected X))
+  key_winds : (correction q' : List ℕ) (q : Decoded) → q ≡ key_with (growths X) (size B (corrected X))
       → q' ≡ key_or q (bytes (edges B) (corrected X)) correction → winds B (together (ones l) (ones q')) ≡ true
   unfolding traps
   key_winds correction q' q is written =
@@ -95,23 +93,23 @@ module _ (B : Board) (loss set : List ℕ) (passed : trap_refusal B loss set ≡
   unfolding trap_answer
   passed_trap = rw passed
 
-  fewest_given : (k : ℕ) → trap_answer B loss set ≡ Fewest k → fewest_trap B loss ≡ some k
+  fewest_given : (k : ℕ) → trap_answer B loss set ≡ Ok (Some k) → fewest_trap B loss ≡ some k
   fewest_given k is = go (fewest_trap B loss) refl
     where
       go : (o : Option ℕ) → fewest_trap B loss ≡ o → o ≡ some k
-      go none p = let q : Nothing ≡ Fewest k = sym (passed_trap ∙ ap trap_of p) ∙ is in zero_one (cc)
-      go (some j) p = let q : Fewest j ≡ Fewest k = sym (passed_trap ∙ ap trap_of p) ∙ is in let same : j ≡ k = cc in ap some same
+      go none p = let q : (Ok None) ≡ Ok (Some k) = sym (passed_trap ∙ ap trap_of p) ∙ is in zero_one (cc)
+      go (some j) p = let q : Ok (Some j) ≡ Ok (Some k) = sym (passed_trap ∙ ap trap_of p) ∙ is in let same : j ≡ k = cc in ap some same
 
-  nothing_given : trap_answer B loss set ≡ Nothing → fewest_trap B loss ≡ none
+  nothing_given : trap_answer B loss set ≡ Ok None → fewest_trap B loss ≡ none
   nothing_given is = go (fewest_trap B loss) refl
     where
       go : (o : Option ℕ) → fewest_trap B loss ≡ o → o ≡ none
       go none p = refl
-      go (some j) p = let q : Fewest j ≡ Nothing = sym (passed_trap ∙ ap trap_of p) ∙ is in zero_one (cc)
+      go (some j) p = let q : Ok (Some j) ≡ Ok None = sym (passed_trap ∙ ap trap_of p) ∙ is in zero_one (cc)
 
 module _ (B : Board) (loss set : List ℕ) (r : Trap) (set' : List ℕ) (w : SetsTrap B loss set r set') where
   -- a refusal shows nothing
-  refused_sound : (n : Refusal) → trap_refusal B loss set ≡ some n → r ≡ Refused n → TrapsSoundly B loss set r set'
+  refused_sound : (n : Refusal) → trap_refusal B loss set ≡ some n → r ≡ Err n → TrapsSoundly B loss set r set'
   refused_sound n is q =
       record {
         edges_shown = λ k p. zero_one (cc);
@@ -133,16 +131,16 @@ module _ (B : Board) (loss set : List ℕ) (r : Trap) (set' : List ℕ) (w : Set
         no_loop = λ q. (λ p. untrapped_loopless B loss (trap_none B loss (nothing p)), λ out. none_answer (none_trap B loss (loopless_untrapped B loss out)));
       }
     where
-      shown : (k : ℕ) → r ≡ Fewest k → ShowsTrap B loss k set'
+      shown : (k : ℕ) → r ≡ Ok (Some k) → ShowsTrap B loss k set'
       shown k p = subst (λ x. Sets B loss set x set') p w.shown
 
-      given : (k : ℕ) → r ≡ Fewest k → fewest_trap B loss ≡ some k
+      given : (k : ℕ) → r ≡ Ok (Some k) → fewest_trap B loss ≡ some k
       given k p = fewest_given B loss set passed k (sym w.result ∙ p)
 
-      nothing : r ≡ Nothing → fewest_trap B loss ≡ none
+      nothing : r ≡ Ok None → fewest_trap B loss ≡ none
       nothing p = nothing_given B loss set passed (sym w.result ∙ p)
 
-      none_answer : fewest_trap B loss ≡ none → r ≡ Nothing
+      none_answer : fewest_trap B loss ≡ none → r ≡ Ok None
       none_answer p = w.result ∙ passed_trap B loss set passed ∙ ap trap_of p
 
   -- whatever meets the outcome

@@ -3,18 +3,21 @@ use Prim.Native.Nat.{ℕ, ◌≤◌, ◌<◌}
 use mathlib.Core.Path.{◌≡◌, sym, ◌∙◌}
 use mathlib.Core.Bool.{Bool, ◌&&◌}
 use mathlib.Core.List.{List, [], ◌∷◌}
-use mathlib.Core.Option.{none, some}
+use mathlib.Core.Option.{Option, none, some}
 use native.Mathlib.Omega.{arith}
 use borrow.Author.Tests.{leb-true, le-leb, lt-leb}
 use lib.ListN.{length}
 use lib.Dec.{leb}
+use Rattle.std.specs.Prelude.{Result, Ok, Err}
 use Rattle.model.specs.declared.refusal.Refusal.TheVariants.{LossByte, OpenByte, TrapEdges}
-use Rattle.model.specs.Sums.{or_else}
+use Rattle.model.specs.declared.refusal.Refusal.{Refusal}
+use Rattle.model.specs.Sums.{or_else, first_up_to}
 use Rattle.model.specs.Board.{Board, edges, edge_limit}
-use Rattle.model.specs.Refusals.{Rule, refusal_of, sized, edges_of, board_rules, loss_rule, open_rule, trap_limit, trap_edges_rule, distance_refusal, trap_refusal}
+use Rattle.model.specs.Refusals.{Rule, above, refusal_of, sized, edges_of, board_rules, loss_rule, open_rule, trap_limit, trap_edges_rule, distance_refusal, trap_refusal}
 use Rattle.model.proofs.Xor.{and_left, and_right}
 use Rattle.model.proofs.RuleLists.{unless_passes, refusal_append}
-use Rattle.board.proofs.Failures.{neither_fails, each_passes}
+use Rattle.board.specs.Checks.{test_of}
+use Rattle.board.proofs.Failures.{passes_on, refuses_first, passes_first, neither_fails, each_passes}
 use Rattle.board.proofs.Passing.{ranged_valid, bytes_say}
 use Rattle.board.proofs.Validity.{Boarded, board_passes, long_enough}
 use Rattle.board.proofs.Calls.{passes_distance}
@@ -50,6 +53,26 @@ module _ (B : Board) (loss set : List ℕ) where
   -- what the board's tests allow the test 8 to index
   pub loss_allowed : refusal_of (board_rules B (trap_sized B loss set)) ≡ none → length loss ≤ edge_limit
   loss_allowed p = let w = boarded p in omega (arith, loss_long w, w.board.inside.edges_limited)
+
+  -- where the board's tests pass, 8 decides, or 16 and 23; then, where 8 passes, those two; then 23 alone
+  module _ {r : Result Unit Refusal} (tested : test_of r ≡ refusal_of (board_rules B (trap_sized B loss set))) (is : r ≡ Ok tt) where
+    pub after_board : trap_refusal B loss set ≡ refusal_of (setting_rules B loss)
+    after_board = trap_tests B loss set ∙ passes_on _ _ _ tested is
+
+    module _ {o : Option ℕ} (found : o ≡ first_up_to (length loss) (above 1 loss)) where
+      pub loss_fails : {e : ℕ} → o ≡ some e → trap_refusal B loss set ≡ some (LossByte (record { 0 = e }))
+      loss_fails q = rw (after_board, ← found, q)
+
+      module _ (nothing : o ≡ none) where
+        after_loss : trap_refusal B loss set ≡ refusal_of (open_rule B.opened ∷ trap_edges_rule B ∷ [])
+        after_loss = rw (after_board, ← found, nothing)
+
+        module _ {u : Result Unit Refusal} (opens : test_of u ≡ refusal_of (open_rule B.opened ∷ [])) where
+          pub open_fails : {n : Refusal} → u ≡ Err n → trap_refusal B loss set ≡ some n
+          open_fails q = after_loss ∙ refuses_first (open_rule B.opened) (trap_edges_rule B ∷ []) u opens q
+
+          pub after_open : u ≡ Ok tt → trap_refusal B loss set ≡ refusal_of (trap_edges_rule B ∷ [])
+          after_open q = after_loss ∙ passes_first (open_rule B.opened) (trap_edges_rule B ∷ []) u opens q
 
   module _ (p : trap_refusal B loss set ≡ none) where
     board_kept : Boarded B (trap_sized B loss set)

@@ -1,6 +1,6 @@
 -- What the search for a trap finds. No part of what a reader must believe. Assumes nothing.
 use Rattle.std.specs.Prelude.{ℕ, ◌+◌, ◌*◌, ◌<◌, ◌≤◌, ◌≡◌, ◌&&◌, List, eqb}
-use Rattle.std.proofs.Math.Option.{Option, none, some}
+use Rattle.std.proofs.Math.Option.{some}
 use Rattle.model.specs.Sums.{Set, count_up_to}
 use Rattle.model.specs.Board.{Board, edges}
 use Rattle.model.specs.Words.{bit_of}
@@ -8,13 +8,6 @@ use Rattle.model.specs.Distance.{fewest}
 use Rattle.model.specs.Outcomes.{ShowsLoop}
 use Rattle.model.specs.Traps.{traps, fewest_trap}
 use Rattle.model.specs.TrapOutcomes.{ShowsTrap}
-use Rattle.trap.specs.declared.search.FoundSet.{FoundSet}
-use Rattle.trap.specs.declared.search.FoundSet.TheVariants.{At, Nowhere}
-
--- the mask that was found
-abbrev pub set_found : FoundSet → Option ℕ
-set_found (At x) = some x
-set_found Nowhere = none
 
 -- the set of a mask has k edges, and is a trap
 abbrev pub trap_of_size : Board → List ℕ → ℕ → Set

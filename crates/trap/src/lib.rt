@@ -10,35 +10,22 @@ ghost use Rattle.model.specs.TrapOutcomes.{SetsTrap, TrapsSoundly};
 
 use crate::checks::check_trap;
 use crate::search::lighten;
-use board::outcome::Check;
 use distance::distance;
-use model::answers::{Distance, Trap};
+use model::lent::Board;
+use model::refusal::Refusal;
 
 // The fewest edges of a trap, that is, of a set whose syndrome the table answers with a correction that winds together with it, and such a
 // set in `set`, a byte for each edge. Where there is no trap, which is where no loop winds, nothing, and `set` is all 0. A refusal leaves
 // `set` as it was.
-pub fn trap(
-    vertices: usize,
-    ends: &[u16],
-    marks: &[u8],
-    opened: &[u8],
-    loss: &[u8],
-    set: &mut [u8],
-) -> Trap
-    ensures outcome { SetsTrap (board_lent vertices ends.now marks.now opened.now) loss.now set.old result set.new }
-    ensures sound { TrapsSoundly (board_lent vertices ends.now marks.now opened.now) loss.now set.old result set.new }
+pub fn trap(board: Board<'_>, loss: &[u8], set: &mut [u8]) -> Result<Option<usize>, Refusal>
+    ensures outcome { SetsTrap (board_lent board.entry) loss.now set.old result set.new }
+    ensures sound { TrapsSoundly (board_lent board.entry) loss.now set.old result set.new }
 {
-    if let Check::Failed(refusal) = check_trap(vertices, ends, marks, opened, loss, set) {
-        return Trap::Refused(refusal);
-    }
+    check_trap(board, loss, set)?;
     // What passed the tests is not refused by the distance.
-    let measured = distance(vertices, ends, marks, opened, set);
-    match measured {
-        Distance::Fewest(fewest) => {
-            let edges = lighten(vertices, ends, marks, opened, loss, fewest, set);
-            Trap::Fewest(edges)
-        }
-        Distance::Nothing => Trap::Nothing,
-        Distance::Refused(refusal) => Trap::Refused(refusal),
-    }
+    let Some(fewest) = distance(board, set)? else {
+        return Ok(None);
+    };
+    let edges = lighten(board, loss, fewest, set);
+    Ok(Some(edges))
 }

@@ -1,6 +1,6 @@
 -- The loop of `compress`: what a turn leaves, at a vertex w on the way up from v. Assumes nothing.
 use Prim.Native.Nat.{ℕ, ◌≤◌, ◌<◌}
-use mathlib.Core.Path.{◌≡◌, refl, sym, ap, ◌∙◌}
+use mathlib.Core.Path.{◌≡◌, sym, ap, ◌∙◌}
 use mathlib.Core.Logic.{◌≢◌}
 use mathlib.Core.Bool.{true, false, cond}
 use mathlib.Core.List.{List}
@@ -10,7 +10,7 @@ use borrow.Author.Tests.{ne_eqb}
 use lib.ListN.{length, set, length-set}
 use lib.Seq.{get_or-set_same, get_or-set_other}
 use Rattle.model.specs.Sums.{◌⊕◌}
-use Rattle.model.proofs.Xor.{xor_self, xor_false}
+use Rattle.model.proofs.Xor.{xor_false}
 use Rattle.union_find.specs.Trees.{at, RootIs, under, Compressed}
 use Rattle.union_find.proofs.Roots.{steps, steps_parent, root_self, root_top, root_parent, root_inside}
 use Rattle.union_find.specs.Packed.{root_mark, parents_of, Compresses}
@@ -23,10 +23,6 @@ pub record Passed (p : List ℕ) (v r w : ℕ) (p' : List ℕ) : Type 0 where
   pub same_length : length p' ≡ length p
   pub ahead : (z : ℕ) → under p z w ≡ true → under p z v ≡ true
   pub each : (z : ℕ) → at p' z ≡ cond (under p z v ⊕ under p z w) r (at p z)
-
-passed_none : {p : List ℕ} {v r : ℕ} → RootIs p v r → Passed p v r v p
-passed_none {p} {v} i =
-    record { way = i; same_length = refl; ahead = λ z on. on; each = λ z. rw (xor_self (under p z v)) }
 
 module _ {p p' : List ℕ} {v r w : ℕ} (k : Passed p v r w p') where
   -- w itself and what lies ahead is untouched
@@ -89,9 +85,6 @@ pub record Passing (t : List ℕ) (v r w : ℕ) (t' : List ℕ) : Type 0 where
   pub passed : Passed (parents_of t) v r w (parents_of t')
   pub same_length : length t' ≡ length t
   pub roots : (z : ℕ) → root_mark ≤ at t z → at t' z ≡ at t z
-
-pub passing_none : (t : List ℕ) {v r : ℕ} → RootIs (parents_of t) v r → Passing t v r v t
-passing_none t i = record { passed = passed_none i; same_length = refl; roots = λ z h. refl }
 
 module _ (t t' : List ℕ) {v r w : ℕ} (k : Passing t v r w t') where
   ways : RootIs (parents_of t) w r

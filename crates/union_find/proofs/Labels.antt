@@ -1,15 +1,15 @@
 -- The tie to the definitions: trees that mirror the labels by some edges mirror them still when the next edge's ends are joined in both.
 -- Assumes nothing.
-use Prim.Native.Nat.{ℕ, zero, suc, ◌≤◌, ◌<◌, min, max}
-use mathlib.Core.Path.{◌≡◌, refl, sym, ap₂, ◌∙◌}
+use Prim.Native.Nat.{ℕ, suc, ◌≤◌, ◌<◌, min, max}
+use mathlib.Core.Path.{◌≡◌, sym, ap₂, ◌∙◌}
 use mathlib.Core.Bool.{true, false, ◌&&◌, ◌||◌, or_comm}
-use mathlib.Core.List.{List, [], ◌∷◌, map}
-use native.Mathlib.Nat.{not-suc-le-zero, le_of_suc-le-suc}
+use mathlib.Core.List.{List}
 use native.Mathlib.Decide.{dec_le}
 use native.Mathlib.Omega.{arith}
 use borrow.Author.Tests.{eqb-true, eq-eqb}
 use lib.ListN.{length}
 use lib.Dec.{eqb}
+use Rattle.std.proofs.lemmas.List.{get_or-map}
 use Rattle.model.specs.Sums.{Set}
 use Rattle.model.specs.Board.{Board, first_end, second_end}
 use Rattle.model.specs.Components.{label, merge, labels_up_to}
@@ -21,17 +21,12 @@ use Rattle.union_find.proofs.Moved.{moved_same}
 use Rattle.union_find.proofs.Fresh.{alone_root}
 use Rattle.union_find.proofs.Unions.{joins_same}
 
-label_map : (f : ℕ → ℕ) (l : List ℕ) (u : ℕ) → u < length l → label (map f l) u ≡ f (label l u)
-label_map f [] u h = absurd (not-suc-le-zero h)
-label_map f (x ∷ l) zero h = refl
-label_map f (x ∷ l) (suc u) h = label_map f l u (le_of_suc-le-suc h)
-
 -- which labels are equal once a and b are one
 merge_same : (a b : ℕ) (l : List ℕ) (u v : ℕ) → u < length l → v < length l
     → eqb (label (merge a b l) u) (label (merge a b l) v)
     ≡ (eqb (label l u) (label l v) || ((eqb (label l u) a || eqb (label l u) b) && (eqb (label l v) a || eqb (label l v) b)))
 merge_same a b l u v hu hv =
-    ap₂ eqb (label_map (moved (max a b) (min a b)) l u hu) (label_map (moved (max a b) (min a b)) l v hv)
+    ap₂ eqb (get_or-map (moved (max a b) (min a b)) l u 0 0 hu) (get_or-map (moved (max a b) (min a b)) l v 0 0 hv)
     ∙ moved_same (max a b) (min a b) (label l u) (label l v)
     ∙ elim (dec_le a b) [
       | yes h ↦

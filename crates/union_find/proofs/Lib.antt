@@ -7,6 +7,7 @@ pub mod Subtrees
 pub mod Compression
 pub mod Fresh
 pub mod Packing
+pub mod StepUp
 pub mod JoinCases
 pub mod Labels
 pub mod CompressLoop

@@ -10,8 +10,9 @@ use native.Mathlib.Omega.{arith}
 use borrow.Author.Tests.{eq-eqb, ne_eqb, eqb-true}
 use lib.ListN.{length}
 use lib.Dec.{eqb}
+use Rattle.std.proofs.lemmas.Bool.{false_from_ne_true}
 use Rattle.model.specs.Sums.{◌⊕◌}
-use Rattle.model.proofs.Xor.{xor_false, not_true_false}
+use Rattle.model.proofs.Xor.{xor_false}
 use Rattle.union_find.specs.Trees.{at, root_of, Climbs, Trees, TwoRoots, hung, grown, under_up_to, under}
 use Rattle.union_find.proofs.Roots.{climb, root_self, root_parent}
 use Rattle.union_find.proofs.Hanging.{hung_parent, other_parent, hung_climbs}
@@ -70,7 +71,7 @@ module _ {n : ℕ} {p s : List ℕ} (t : Climbs n p s) where
   pub under_before : (u : ℕ) → u < n → at p u ≢ u → under p u (at p u) ≡ false
   unfolding under
   under_before u h q =
-      not_true_false _ (λ on. omega (arith, t.rising u h q, under_larger u (at p u) (t.inside u h) (length p) on))
+      false_from_ne_true _ (λ on. omega (arith, t.rising u h q, under_larger u (at p u) (t.inside u h) (length p) on))
 
   -- a vertex is at z, or its parent is at z or below it, and never both
   pub under_parent : (z u : ℕ) → u < n → at p u ≢ u → under p z u ≡ eqb u z ⊕ under p z (at p u)

@@ -8,7 +8,7 @@ ghost use Rattle.union_find.specs.Packed.{parents_of, Fits, EachAlone, Compresse
 use model::limits::VERTICES;
 use model::numbers::Vertex;
 
-// What joining two vertices did.
+// What joining two vertices did. Neither of the two is a failure, nor is one without a value: so it is no `Result` and no `Option`.
 #[derive(Clone, Copy)]
 pub enum Joined {
     // The tree of the root `child` was hung under `root`, the root of a tree that is no smaller.
@@ -25,9 +25,7 @@ pub fn alone(vertices: usize, tree: &mut [u16; VERTICES])
     requires { Fits vertices tree.old }
     ensures { EachAlone vertices tree.new }
 {
-    for v in 0..vertices {
-        tree[v] = ROOT + 1;
-    }
+    tree[..vertices].fill(ROOT + 1);
 }
 
 // The root of v's tree.
@@ -66,7 +64,7 @@ fn hang(tree: &mut [u16; VERTICES], child: Vertex, root: Vertex) -> Joined
     let x = child.0 as usize;
     let y = root.0 as usize;
     let size = tree[x] - ROOT;
-    tree[y] = tree[y] + size;
+    tree[y] += size;
     tree[x] = root.0;
     Joined::Hung { child, root }
 }
@@ -78,7 +76,7 @@ pub fn join(tree: &mut [u16; VERTICES], a: Vertex, b: Vertex) -> Joined
 {
     let x = root_of(tree, a);
     let y = root_of(tree, b);
-    if x.0 == y.0 {
+    if x == y {
         return Joined::Already(x);
     }
     if tree[x.0 as usize] < tree[y.0 as usize] {

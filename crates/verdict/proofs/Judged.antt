@@ -10,17 +10,18 @@ use lib.Dec.{eqb, ltb}
 use lib.ListN.{length, get_or, take}
 use lib.Seq.{get_or-take, length-take-le}
 use Rattle.model.specs.Sums.{Set, ◌⊕◌, bit, first_up_to, ones}
-use Rattle.model.specs.Board.{Board, EndsWithin, edges, is_open}
+use Rattle.model.specs.Board.{Board, edges, is_open}
 use Rattle.model.specs.Syndrome.{odd_end, syndrome}
 use Rattle.model.specs.Winding.{crossings, together}
 use Rattle.model.specs.Verdict.{differs, compared, judged}
 use Rattle.model.specs.Refusals.{above}
+use Rattle.model.specs.declared.answers.Verdict.{Verdict}
 use Rattle.model.specs.declared.answers.Verdict.TheVariants.{Off, Same, Wound}
 use Rattle.model.proofs.Xor.{xor_comm}
 use Rattle.model.proofs.Bits.{byte_bit}
 use Rattle.model.proofs.SumLaws.{first_cong}
 use Rattle.board.proofs.CopyLaws.{copied}
-use Rattle.verdict.specs.VertexParities.{Bits, Flipped, met_by, Clearable, Cleared}
+use Rattle.verdict.specs.VertexParities.{Bits, Flipped, met_by, Cleared}
 use Rattle.verdict.specs.CrossingParities.{crossed_by}
 use Rattle.verdict.specs.Judging.{Judgeable}
 use Rattle.verdict.proofs.LoadedBytes.{loaded_ones}
@@ -44,14 +45,7 @@ first_lit B S H l b at =
     (λ v h. ap (λ x. ltb 0 x) (get_or-take B.vertices l v 0 h) ∙ lit (get_or l v 0) (b.small v h) ∙ at v h))
 
 module _ (B : Board) (lit-bytes handed correction : List ℕ) (j : Judgeable B lit-bytes handed correction) where
-  -- each byte of the handed-in set is that of an edge within the board
-  pub handed_inside : EndsWithin B.vertices (length handed) B.ends
-  handed_inside = rw j.handed_bytes.count j.inside
-
-  -- the parities can be cleared, and stay 0 or 1
-  pub clearable : {g : Set} {k l : List ℕ} → Flipped g B.vertices k l → Clearable (length B.opened) l
-  clearable f = record { limit = omega (arith, j.open_bytes, f.bits.limit); long = f.bits.long }
-
+  -- the parities that are cleared stay 0 or 1
   pub cleared_bits : {g : Set} {k l m : List ℕ} → Flipped g B.vertices k l → Cleared (length B.opened) B.opened l m → Bits B.vertices m
   cleared_bits {l = l} f c =
       record {
@@ -95,18 +89,27 @@ module _ (B : Board) (lit-bytes handed correction : List ℕ) (j : Judgeable B l
           ∙ flipped v h
           ∙ sym (ap (λ x. (not x && met v) ⊕ ones lit-bytes v) p)
 
--- off, same and wound by what was found
-module _ (B : Board) (S C H : Set) where
-  pub judged_off : {v : ℕ} → differs B S H ≡ some v → judged B S C H ≡ Off (record { 0 = v })
-  unfolding judged
-  judged_off p = rw p
+  abbrev verdict_is : Verdict
+  verdict_is = judged B (ones lit-bytes) (ones correction) (ones handed)
 
-  judged_marks : {x : ℕ} → differs B S H ≡ none → x ≡ crossed_by B.marks (together H C) → judged B S C H ≡ compared x
-  unfolding judged crossings
-  judged_marks p q = rw (p, q)
+  -- off, same and wound by what was found
+  module _ (d : List ℕ) {k l m : List ℕ} {o : Option ℕ} (copy : k ≡ copied lit-bytes d B.vertices)
+      (f : Flipped (met_by B.ends (ones handed) (length handed)) B.vertices k l) (c : Cleared (length B.opened) B.opened l m)
+      (q : o ≡ first_up_to (length (take B.vertices m)) (above 0 (take B.vertices m))) where
+    found : differs B (ones lit-bytes) (ones handed) ≡ o
+    found = cleared_differs d k l m copy f c q
 
-  pub judged_same : {x : ℕ} → differs B S H ≡ none → x ≡ crossed_by B.marks (together H C) → x ≡ 0 → judged B S C H ≡ Same
-  judged_same p q z = judged_marks p q ∙ rw z
+    pub judged_off : {v : ℕ} → o ≡ some v → Off (record { 0 = v }) ≡ verdict_is
+    unfolding judged
+    judged_off p = sym (rw (found ∙ p))
 
-  pub judged_wound : {x : ℕ} → differs B S H ≡ none → x ≡ crossed_by B.marks (together H C) → (x ≡ 0 → ⊥) → judged B S C H ≡ Wound x
-  judged_wound {x} p q z = judged_marks p q ∙ rw (ne_eqb x 0 z)
+    judged_marks : {x : ℕ} → o ≡ none → x ≡ crossed_by B.marks (together (ones handed) (ones correction)) → compared x ≡ verdict_is
+    unfolding judged crossings
+    judged_marks p r = sym (rw (found ∙ p, r))
+
+    pub judged_same : {x : ℕ} → o ≡ none → x ≡ crossed_by B.marks (together (ones handed) (ones correction)) → x ≡ 0 → Same ≡ verdict_is
+    judged_same p r z = sym (rw z) ∙ judged_marks p r
+
+    pub judged_wound : {x : ℕ} → o ≡ none → x ≡ crossed_by B.marks (together (ones handed) (ones correction)) → (x ≡ 0 → ⊥)
+        → Wound x ≡ verdict_is
+    judged_wound {x} p r z = sym (rw (ne_eqb x 0 z)) ∙ judged_marks p r

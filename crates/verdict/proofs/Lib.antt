@@ -1,6 +1,5 @@
 mod ByteFlips
 mod CrossingCounts
-mod Clearing
 mod Judged
 mod LoadedBytes
 pub mod SetSyndromes

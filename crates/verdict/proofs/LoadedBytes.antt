@@ -1,15 +1,14 @@
 -- The syndrome put, copied over the first bytes of an array: what is then flipped. Assumes nothing.
-use Prim.Native.Nat.{ℕ, ◌<◌, ◌≤◌}
+use Prim.Native.Nat.{ℕ, ◌<◌}
 use mathlib.Core.Path.{◌≡◌, ap, ◌∙◌}
 use mathlib.Core.List.{List}
 use native.Mathlib.Omega.{arith}
 use lib.Dec.{eqb}
-use lib.ListN.{length, get_or, take, drop, get_or-append}
+use lib.ListN.{get_or, take, drop, get_or-append}
 use lib.Seq.{get_or-take, length-take-le}
 use Rattle.model.specs.Sums.{ones}
-use Rattle.model.specs.Board.{ValidBytes, vertex_limit}
-use Rattle.board.proofs.CopyLaws.{copied, length_copied}
-use Rattle.verdict.specs.VertexParities.{Bits}
+use Rattle.model.specs.Board.{ValidBytes}
+use Rattle.board.proofs.CopyLaws.{copied}
 
 module _ (n : ℕ) (s d l : List ℕ) (valid : ValidBytes n s) (copy : l ≡ copied s d n) where
   loaded_at : (v : ℕ) → v < n → get_or l v 0 ≡ get_or s v 0
@@ -20,11 +19,3 @@ module _ (n : ℕ) (s d l : List ℕ) (valid : ValidBytes n s) (copy : l ≡ cop
 
   pub loaded_ones : (v : ℕ) → v < n → ones l v ≡ ones s v
   loaded_ones v h = ap (λ x. eqb x 1) (loaded_at v h)
-
-  pub loaded_bits : n ≤ vertex_limit → length d ≡ vertex_limit → Bits n l
-  loaded_bits few long =
-      record {
-        limit = few;
-        long = ap length copy ∙ length_copied n s d (omega (arith, valid.count)) (omega arith) ∙ long;
-        small = λ v h. rw (loaded_at v h) (valid.each v h);
-      }

@@ -13,7 +13,7 @@ use Rattle.model.specs.Board.{Board, Inside, EndsWithin, vertex_limit, edges, is
 use Rattle.model.specs.Syndrome.{odd_end, syndrome}
 use Rattle.model.proofs.Bits.{byte_bit}
 use Rattle.model.proofs.ListLaws.{values_are, zero_everywhere}
-use Rattle.verdict.specs.VertexParities.{Bits, Flipped, met_by, Clearable, Cleared}
+use Rattle.verdict.specs.VertexParities.{Bits, Flipped, met_by, Cleared}
 
 -- no vertex is lit
 pub unlit_bits : (n : ℕ) → n ≤ vertex_limit → Bits n (replicate vertex_limit 0)
@@ -24,9 +24,6 @@ module _ (B : Board) (inside : Inside B) (opens : length B.opened ≡ B.vertices
   set_inside = rw long inside
 
   module _ {l : List ℕ} (f : Flipped (met_by B.ends (ones handed) (length handed)) B.vertices (replicate vertex_limit 0) l) where
-    pub set_clearable : Clearable (length B.opened) l
-    set_clearable = record { limit = omega (arith, opens, f.bits.limit); long = f.bits.long }
-
     met : (v : ℕ) → v < B.vertices → get_or l v 0 ≡ bit (odd_end B (ones handed) v)
     unfolding odd_end
     met v h =

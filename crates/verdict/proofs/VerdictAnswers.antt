@@ -1,29 +1,32 @@
 -- The verdict's outcome from that of decoding: a refusal of its own tests, number 10 from decoding, or the comparison with the correction
 -- that decoding wrote. Assumes nothing.
-use Prim.Native.Nat.{ℕ, ◌<◌}
+use Prim.Native.Nat.{ℕ, ◌<◌, ◌≤◌}
 use mathlib.Core.Path.{◌≡◌, refl, sym, ap, ◌∙◌}
 use mathlib.Core.Bool.{Bool, true, false, cond}
 use mathlib.Core.List.{List}
 use mathlib.Core.Option.{Option, none, some}
 use lib.Dec.{eqb}
+use lib.ListN.{length, take, replicate}
 use Rattle.model.specs.declared.refusal.Refusal.{Refusal}
-use Rattle.model.specs.declared.answers.Decoded.{Decoded}
-use Rattle.model.specs.declared.answers.Decoded.TheVariants as decoded
+use Rattle.model.specs.declared.answers.Key.{Key}
 use Rattle.model.specs.declared.answers.Verdict.{Verdict}
 use Rattle.model.specs.declared.answers.Verdict.TheVariants as verdict
 use Rattle.model.specs.Sums.{Set, ◌⊕◌, ones, bytes}
-use Rattle.model.specs.Board.{Board, Sheet, edges}
+use Rattle.model.specs.Board.{Board, Sheet, edges, edge_limit}
 use Rattle.model.specs.Winding.{together, crossings, size}
 use Rattle.model.specs.Decoding.{smallest_odd, growths, supports, corrected}
 use Rattle.model.specs.Verdict.{differs, judged_at, judged}
 use Rattle.model.specs.Refusals.{none_at, verdict_refusal}
 use Rattle.model.specs.Outcomes.{key_or_none, key_or, Decodes, judged_or_none, verdict_answer, Judges}
 use Rattle.model.proofs.Contradiction.{zero_one}
-use Rattle.model.proofs.ListLaws.{ones_bytes, bytes_valid}
+use Rattle.model.proofs.ListLaws.{front_long, ones_bytes, bytes_valid}
 use Rattle.theory.proofs.CrossedLines.{crossings_cong}
 use Rattle.theory.proofs.Decodings.{passed_answer, none_answer, key_answer}
-use Rattle.board.proofs.Calls.{passes_decode, passes_verdict}
+use Rattle.board.specs.Checks.{test_of}
+use Rattle.board.proofs.Calls.{ForVerdict, verdict_passes, passes_decode, passes_verdict}
 use Rattle.verdict.specs.Judging.{Judgeable, Comparable, decoded_or, Compares}
+use Rattle.model.specs.Answers.{Decoded, key_with}
+use Rattle.std.specs.Prelude.{Result, Ok, Err}
 
 -- only the edges of the correction below the edge count matter
 judged_cong : (B : Board) (S C D H : Set) → ((e : ℕ) → e < edges B → C e ≡ D e) → judged B S C H ≡ judged B S D H
@@ -67,6 +70,22 @@ pub judged_verdict : (X : Sheet) (handed : List ℕ) → smallest_odd X.board (o
 unfolding judged_or_none
 judged_verdict X handed p = rw p
 
+-- What is lent where the verdict's tests pass: the fronts of two arrays of zeros are the buffers
+
+module _ (X : Sheet) (handed : List ℕ) {r : Result Unit Refusal} (tested : test_of r ≡ verdict_refusal X handed) (passed : r ≡ Ok tt) where
+  lent_for : ForVerdict X handed
+  lent_for = verdict_passes X handed (sym tested ∙ ap test_of passed)
+
+  pub buffers_fit : edges X.board ≤ edge_limit
+  buffers_fit = lent_for.sheet.board.inside.edges_limited
+
+  pub front_whole : length (take (edges X.board) (replicate {A = ℕ} edge_limit 0)) ≡ edges X.board
+  front_whole = front_long (edges X.board) edge_limit 0 buffers_fit
+
+  pub comparable : (support correction : List ℕ) → length support ≡ edges X.board → length correction ≡ edges X.board → Comparable X handed support correction
+  comparable support correction long also =
+      record { sheet = lent_for.sheet; handed_bytes = lent_for.bytes; support_long = long; correction_long = also }
+
 -- That answer from decoding's, a, with what decoding wrote
 
 module _ (X : Sheet) (handed support correction support' correction' : List ℕ) (lent : Comparable X handed support correction)
@@ -82,19 +101,19 @@ module _ (X : Sheet) (handed support correction support' correction' : List ℕ)
   judged_is = passed_verdict X handed (passes_verdict X handed (record { sheet = lent.sheet; bytes = lent.handed_bytes }))
 
   -- decoding refuses: number 10, with the same vertex
-  none_judges : (n : Refusal) → a ≡ decoded.Refused n → Judges X handed (verdict.Refused n)
+  none_judges : (n : Refusal) → a ≡ Err n → Judges X handed (verdict.Refused n)
   none_judges n refused = go (smallest_odd X.board (ones X.syndrome)) refl
     where
       go : (o : Option ℕ) → smallest_odd X.board (ones X.syndrome) ≡ o → Judges X handed (verdict.Refused n)
       go (some v) p =
-          let q : decoded.Refused n ≡ decoded.Refused (none_at v) = sym refused ∙ decoded_is ∙ none_answer X v p in
+          let q : Err n ≡ Err (none_at v) = sym refused ∙ decoded_is ∙ none_answer X v p in
           let same : n ≡ none_at v = cc in
           record { result = ap verdict.Refused same ∙ sym (judged_is ∙ none_verdict X handed v p) }
       go none p =
-          let q : decoded.Refused n ≡ decoded.Key (growths X) (size X.board (corrected X)) = sym refused ∙ decoded_is ∙ key_answer X p in
+          let q : Err n ≡ key_with (growths X) (size X.board (corrected X)) = sym refused ∙ decoded_is ∙ key_answer X p in
           zero_one (cc)
 
-  pub none_compares : (n : Refusal) → a ≡ decoded.Refused n → Compares X handed support correction (verdict.Refused n) support' correction'
+  pub none_compares : (n : Refusal) → a ≡ Err n → Compares X handed support correction (verdict.Refused n) support' correction'
   none_compares n refused =
       record {
         judges = none_judges n refused;
@@ -103,7 +122,7 @@ module _ (X : Sheet) (handed support correction support' correction' : List ℕ)
       }
 
   -- decoding gives a key: the correction is written, and can be compared
-  module _ (g k : ℕ) (key : a ≡ decoded.Key g k) where
+  module _ (k : Key) (key : a ≡ Ok k) where
     key_written : correction' ≡ bytes (edges X.board) (corrected X)
     key_written = d.correction_bytes ∙ ap (λ x. key_or x (bytes (edges X.board) (corrected X)) correction) key
 
@@ -123,7 +142,7 @@ module _ (X : Sheet) (handed support correction support' correction' : List ℕ)
       where
         go : (o : Option ℕ) → smallest_odd X.board (ones X.syndrome) ≡ o → Judges X handed r
         go (some v) p =
-            let e : decoded.Key g k ≡ decoded.Refused (none_at v) = sym key ∙ decoded_is ∙ none_answer X v p in
+            let e : Ok k ≡ Err (none_at v) = sym key ∙ decoded_is ∙ none_answer X v p in
             zero_one (cc)
         go none p =
             record {

@@ -24,12 +24,9 @@ pub(crate) fn crossings(marks: &[u8], handed: &[u8], correction: &[u8]) -> u8
 {
     let mut a: u8 = 0;
     let mut b: u8 = 0;
-    let mut e = 0;
-    while e < marks.len() {
-        let mark = marks[e];
-        a = counted(a, handed[e], correction[e], mark % 2);
-        b = counted(b, handed[e], correction[e], mark / 2 % 2);
-        e += 1;
+    for (e, mark) in marks.iter().enumerate() {
+        a = counted(a, handed[e], correction[e], *mark % 2);
+        b = counted(b, handed[e], correction[e], *mark / 2 % 2);
     }
     a + 2 * b
 }

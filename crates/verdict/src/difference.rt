@@ -38,10 +38,8 @@ pub fn count_edges(vertices: usize, ends: &[u16], handed: &[u8], parity: &mut [u
     ensures { Flipped (met_by ends.now (ones handed.now) (length handed.now)) vertices
         parity.old parity.new }
 {
-    let mut e = 0;
-    while e < handed.len() {
+    for e in 0..handed.len() {
         count_edge(vertices, ends, handed, Edge(e as u16), parity);
-        e += 1;
     }
 }
 
@@ -50,11 +48,9 @@ pub fn clear_open(opened: &[u8], parity: &mut [u8; VERTICES])
     requires { Clearable (length opened.now) parity.old }
     ensures { Cleared (length opened.now) opened.now parity.old parity.new }
 {
-    let mut v = 0;
-    while v < opened.len() {
-        if opened[v] == 1 {
+    for (v, open) in opened.iter().enumerate() {
+        if *open == 1 {
             parity[v] = 0;
         }
-        v += 1;
     }
 }

@@ -1,9 +1,13 @@
 -- `decode` meets both of its promises. Assumes nothing.
+use Rattle.std.proofs.lemmas.Result.{err_from_is_err_and}
 use Rattle.decoder.proofs.DecodeLaws.{decodes}
 use Rattle.decoder.proofs.decode.Goals as goal
 
-pub returns-in-Key : goal.returns-in-Key
-returns-in-Key c = let all = decodes _ _ _ _ _ c.in-Key.is c.solve.ensures in record { key = all.0; sound = all.1 }
+pub returns-in_err-solved : goal.returns-in_err-solved
+returns-in_err-solved c =
+    let p = err_from_is_err_and c.from_residual.result c.from_residual.ensures.1 in
+    let all = decodes _ _ _ _ _ c.in_err-solved.was c.solve.ensures in
+    rw (p.1, p.2) (record { key = all.0; sound = all.1 })
 
-pub returns-in-Refused : goal.returns-in-Refused
-returns-in-Refused c = let all = decodes _ _ _ _ _ c.in-Refused.is c.solve.ensures in record { key = all.0; sound = all.1 }
+pub returns : goal.returns
+returns c = let all = decodes _ _ _ _ _ c.in_ok-solved.was c.solve.ensures in record { key = all.0; sound = all.1 }

@@ -1,9 +1,6 @@
--- `distance_sheets::fill_ring` is safe and ends. The loop's invariant: v stays small, and both buffers keep their lengths. Assumes nothing.
-use Rattle.std.proofs.Common.{◌≡◌, ◌-◌, ◌≤◌, length}
+-- `distance_sheets::fill_ring` is safe and ends. The loop's invariant: v stays small. Assumes nothing.
+use Rattle.std.proofs.Common.{◌≤◌}
 use Rattle.distance_sheets.proofs.fill_ring.Given as goal
 
-abbrev pub invariant-loop-e : goal.invariant-loop-e
-invariant-loop-e l = (l.v ≤ 1025) × (length l.ends ≡ length l.initial.ends) × (length l.marks ≡ length l.initial.marks)
-
-abbrev pub decreases-loop-e : goal.decreases-loop-e
-decreases-loop-e l = length l.initial.marks - l.e
+abbrev pub invariant-loop-pair : goal.invariant-loop-pair
+invariant-loop-pair l = l.v ≤ 1025

@@ -3,19 +3,10 @@ use Rattle.faces.proofs.MarkedFaces.{markable, marked, unmarked}
 use Rattle.faces.proofs.judge_and_mark.Goals as goal
 
 pub mark_faces-requires : goal.mark_faces-requires
-mark_faces-requires c =
-    let a = c.args in
-    markable a.side a.syndrome.now a.loss.now a.handed.now a.faces.now c.requires.0 _ _ _
-    c.judge-verdict.ensures c.in-Same.is
+mark_faces-requires c = markable _ _ _ _ _ c.requires.0 _ _ _ c.judge-verdict.ensures c.in-Same.is
 
 pub returns-in-Same : goal.returns-in-Same
-returns-in-Same c =
-    let a = c.args in
-    marked a.side a.syndrome.now a.loss.now a.handed.now a.faces.now c.requires.0 _ _ _
-    c.judge-verdict.ensures c.in-Same.is _ c.mark_faces.ensures
+returns-in-Same c = marked _ _ _ _ _ c.requires.0 _ _ _ c.judge-verdict.ensures c.in-Same.is _ c.mark_faces.ensures
 
 pub returns-in_default : goal.returns-in_default
-returns-in_default c =
-    let a = c.args in
-    unmarked a.side a.syndrome.now a.loss.now a.handed.now a.faces.now c.requires.0 _ _ _
-    c.judge-verdict.ensures c.in_default.not-Same
+returns-in_default c = unmarked _ _ _ _ _ c.requires.0 _ _ _ c.judge-verdict.ensures c.in_default.not-Same

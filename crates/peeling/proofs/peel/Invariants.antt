@@ -5,6 +5,3 @@ use Rattle.peeling.proofs.peel.Given as goal
 
 abbrev pub invariant-loop-k : goal.invariant-loop-k
 invariant-loop-k l = PeelingFrom l.vertices l.ends l.support l.lit (parents_of l.tree) l.correction l.odd l.k l.count
-
-abbrev pub decreases-loop-k : goal.decreases-loop-k
-decreases-loop-k l = l.k

@@ -3,24 +3,26 @@ ghost use Rattle.std.specs.Prelude.{◌≤◌};
 use crate::decoding::summary::summary;
 use crate::{output, unopened};
 use decoder::decode;
-use model::answers::Decoded;
+use model::answers::Key;
+use model::lent::{Board, Sheet};
+use model::refusal::Refusal;
 use std::io;
 
-fn answer(rt: &impl Print, decoded: Decoded) -> io::Result<()> {
+fn answer(rt: &impl Print, decoded: Result<Key, Refusal>) -> io::Result<()> {
     match decoded {
-        Decoded::Key { growths, edges } => {
-            output::count(rt, growths)?;
+        Ok(key) => {
+            output::count(rt, key.growths)?;
             output::text(rt, b" growths, ")?;
-            output::count(rt, edges)?;
+            output::count(rt, key.edges)?;
             output::text(rt, b" edges")
         }
-        Decoded::Refused(refusal) => output::refused(rt, refusal),
+        Err(refusal) => output::refused(rt, refusal),
     }
 }
 
 // What stands in a buffer: every byte, or what sums them up where they are many.
 fn buffer(rt: &impl Print, bytes: &[u8]) -> io::Result<()> {
-    if bytes.len() == 0 {
+    if bytes.is_empty() {
         output::text(rt, b"-")
     } else if bytes.len() > 20 {
         summary(rt, bytes)
@@ -30,31 +32,30 @@ fn buffer(rt: &impl Print, bytes: &[u8]) -> io::Result<()> {
 }
 
 // The line of a sheet, but for its name.
-pub(crate) fn show(
+pub(crate) fn show<'a>(
     rt: &impl Print,
     vertices: usize,
-    ends: &[u16],
-    marks: &[u8],
-    syndrome: &[u8],
-    loss: &[u8],
+    ends: &'a [u16],
+    marks: &'a [u8],
+    syndrome: &'a [u8],
+    loss: &'a [u8],
     support: &mut [u8],
     correction: &mut [u8],
 ) -> io::Result<()> {
     let zeros = [0u8; unopened::MOST];
     let n = unopened::count(vertices);
-    answer(
-        rt,
-        decode(
-            vertices,
-            ends,
-            marks,
-            &zeros[..n],
-            syndrome,
-            loss,
-            support,
-            correction,
-        ),
-    )?;
+    let board = Board {
+        vertices,
+        ends,
+        marks,
+        opened: &zeros[..n],
+    };
+    let sheet = Sheet {
+        board,
+        syndrome,
+        loss,
+    };
+    answer(rt, decode(sheet, support, correction))?;
     output::text(rt, b", support ")?;
     buffer(rt, support)?;
     output::text(rt, b", correction ")?;
@@ -66,11 +67,7 @@ pub(crate) fn show(
 fn few(ends: &[u16]) -> usize
     ensures { result ≤ 20 }
 {
-    let edges = ends.len() / 2;
-    if edges < 20 {
-        return edges;
-    }
-    20
+    (ends.len() / 2).min(20)
 }
 
 // The line of a sheet of at most 20 edges. Both buffers are lent full of nines, so that what decoding does not write shows.

@@ -3,15 +3,12 @@ ghost use Rattle.std.specs.Prelude.{◌≤◌};
 
 // Edge e joins e and e + 1 + e / 1,024, around 1,024 vertices. So 1,023 edges are a path, and 4,096 join each vertex to its eight nearest.
 pub(crate) fn around(ends: &mut [u16]) {
-    let edges = ends.len() / 2;
-    let mut e = 0;
-    while e < edges {
-        let i = 2 * e;
+    let (pairs, _) = ends.as_chunks_mut::<2>();
+    for (e, pair) in pairs.iter_mut().enumerate() {
         let first = e % 1024;
         let second = (e + 1 + e / 1024) % 1024;
-        ends[i] = first as u16;
-        ends[i + 1] = second as u16;
-        e += 1;
+        pair[0] = first as u16;
+        pair[1] = second as u16;
     }
 }
 
@@ -19,9 +16,9 @@ pub(crate) fn around(ends: &mut [u16]) {
 pub(crate) fn every(step: usize, bytes: &mut [u8])
     requires { (1 ≤ step) × (step ≤ 1024) }
 {
-    let mut i = 0;
-    while i < bytes.len() {
-        bytes[i] = 1;
-        i += step;
+    for (i, byte) in bytes.iter_mut().enumerate() {
+        if i % step == 0 {
+            *byte = 1;
+        }
     }
 }

@@ -5,10 +5,6 @@ use crate::decoding::large::around;
 use crate::output::name;
 use std::io;
 
-const LIT: [u8; 4] = [1, 0, 0, 1];
-
-const KEPT: [u8; 4] = [0, 0, 0, 0];
-
 // The sheet m1 with other ends, marks, syndrome or loss bytes, or with buffers of other lengths.
 
 fn ends(rt: &impl Print, lent: &[u16]) -> io::Result<()> {

@@ -6,15 +6,7 @@ use std::io;
 
 // How many bytes hold the value.
 fn how_many(bytes: &[u8], value: u8) -> usize {
-    let mut found = 0;
-    let mut i = 0;
-    while i < bytes.len() {
-        if bytes[i] == value {
-            found += 1;
-        }
-        i += 1;
-    }
-    found
+    bytes.iter().filter(|byte| **byte == value).count()
 }
 
 // The digest with one byte more: the bytes are the digits of a number in base 31, modulo 65,521.
@@ -22,15 +14,13 @@ fn digest_more(digest: u32, byte: u8) -> u32
     requires { digest ≤ 65520 }
     ensures { result ≤ 65520 }
 {
-    (31 * digest + byte as u32) % 65521
+    (31 * digest + u32::from(byte)) % 65521
 }
 
 fn digest(bytes: &[u8]) -> u32 {
     let mut digest = 0;
-    let mut i = 0;
-    while i < bytes.len() {
-        digest = digest_more(digest, bytes[i]);
-        i += 1;
+    for byte in bytes {
+        digest = digest_more(digest, *byte);
     }
     digest
 }

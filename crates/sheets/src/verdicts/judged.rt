@@ -1,5 +1,6 @@
 use crate::{output, unopened};
 use model::answers::Verdict;
+use model::lent::{Board, Sheet};
 use std::io;
 use verdict::verdict;
 
@@ -19,20 +20,28 @@ fn answer(rt: &impl Print, verdict: Verdict) -> io::Result<()> {
 }
 
 // The line of a sheet with a handed-in set, but for its name.
-pub(crate) fn show(
+pub(crate) fn show<'a>(
     rt: &impl Print,
     vertices: usize,
-    ends: &[u16],
-    marks: &[u8],
-    syndrome: &[u8],
-    loss: &[u8],
+    ends: &'a [u16],
+    marks: &'a [u8],
+    syndrome: &'a [u8],
+    loss: &'a [u8],
     handed: &[u8],
 ) -> io::Result<()> {
     let zeros = [0u8; unopened::MOST];
     let n = unopened::count(vertices);
-    answer(
-        rt,
-        verdict(vertices, ends, marks, &zeros[..n], syndrome, loss, handed),
-    )?;
+    let board = Board {
+        vertices,
+        ends,
+        marks,
+        opened: &zeros[..n],
+    };
+    let sheet = Sheet {
+        board,
+        syndrome,
+        loss,
+    };
+    answer(rt, verdict(sheet, handed))?;
     output::text(rt, b"\n")
 }

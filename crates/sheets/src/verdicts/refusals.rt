@@ -4,10 +4,6 @@ use crate::output::name;
 use crate::verdicts::judged::show;
 use std::io;
 
-const LIT: [u8; 4] = [1, 0, 0, 1];
-
-const KEPT: [u8; 4] = [0, 0, 0, 0];
-
 const RIGHT: [u8; 4] = [0, 0, 0, 1];
 
 // The sheet m1 and its correction, with other ends, marks, syndrome, loss or handed-in bytes.

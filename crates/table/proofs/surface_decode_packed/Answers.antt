@@ -4,4 +4,4 @@ use Rattle.table.proofs.Exported.{decode_packed_exported}
 use Rattle.table.proofs.surface_decode_packed.Goals as goal
 
 pub returns : goal.returns
-returns c = let all = decode_packed_exported c.pack_decoded.ensures (c.decode_packed.ensures.key, c.decode_packed.ensures.sound) in record { number = all.0; outcome = all.1.0; sound = all.1.1 }
+returns c = let all = decode_packed_exported c.as_number.ensures (c.decode_packed.ensures.key, c.decode_packed.ensures.sound) in record { number = all.0; outcome = all.1.0; sound = all.1.1 }

@@ -5,4 +5,4 @@ use Rattle.table.proofs.Exported.{faces_exported}
 use Rattle.table.proofs.surface_faces.Goals as goal
 
 pub returns : goal.returns
-returns c = let all = faces_exported (search rules) c.pack_verdict.ensures (c.faces.ensures.outcome, c.faces.ensures.sound) in record { number = all.0; outcome = all.1.0; sound = all.1.1 }
+returns c = let all = faces_exported (search rules) c.verdict_as_number.ensures (c.faces.ensures.outcome, c.faces.ensures.sound) in record { number = all.0; outcome = all.1.0; sound = all.1.1 }

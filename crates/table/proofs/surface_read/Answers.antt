@@ -4,4 +4,4 @@ use Rattle.table.proofs.Exported.{read_exported}
 use Rattle.table.proofs.surface_read.Goals as goal
 
 pub returns : goal.returns
-returns c = let all = read_exported c.pack_reading.ensures c.read.ensures in record { number = all.0; outcome = all.1 }
+returns c = let all = read_exported c.as_number.ensures c.read.ensures in record { number = all.0; outcome = all.1 }

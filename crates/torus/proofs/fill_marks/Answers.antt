@@ -1,29 +1,9 @@
-use native.Mathlib.Omega.{arith}
-use lib.ListN.{length-set}
+-- After the last turn all marks are written.
+use Rattle.std.proofs.Common.{arith}
 use Rattle.model.specs.Torus.{torus_marks}
-use Rattle.torus.proofs.Numbering.{square_limit}
-use Rattle.torus.proofs.Filling.{filled_none, filled_all}
-use Rattle.torus.proofs.Writing.{marks_more}
-use borrow.Author.Rules.{rules}
+use Rattle.torus.proofs.Filling.{filled_all}
 use Rattle.torus.proofs.fill_marks.Goals as goal
-
-pub loop-v-init : goal.loop-v-init
-loop-v-init c = (search rules, c.requires.1, filled_none _ _)
-
-pub overflow_cast-number : goal.overflow_cast-number
-overflow_cast-number c = omega (arith, square_limit c.args.side c.requires.0.most)
-
-pub bounds-marks-i-in-loop-v : goal.bounds-marks-i-in-loop-v
-bounds-marks-i-in-loop-v c = simp length-set (omega arith)
-
-pub loop-v-preserved : goal.loop-v-preserved
-loop-v-preserved c =
-    let at = c.loop-v in (
-      search rules,
-      simp length-set at.invariant.1,
-      marks_more _ _ _ _ _ at.invariant.2 (omega arith) c.right_mark.ensures c.below_mark.ensures,
-    )
 
 pub returns : goal.returns
 unfolding torus_marks
-returns c = let at = c.loop-v in filled_all _ at.invariant.2 at.invariant.1 (omega arith)
+returns c = filled_all _ c.loop-v.invariant (omega arith) (omega arith)

@@ -1,8 +1,5 @@
-use Rattle.union_find.proofs.CompressLoop.{passing_none, passing_less, passing_next, passing_all}
+use Rattle.union_find.proofs.CompressLoop.{passing_less, passing_next, passing_all}
 use Rattle.union_find.proofs.compress.Goals as goal
-
-pub loop-w-init : goal.loop-w-init
-loop-w-init c = passing_none _ c.requires
 
 pub loop-w-smaller : goal.loop-w-smaller
 loop-w-smaller c = passing_less _ _ c.loop-w.invariant c.loop-w-test.true

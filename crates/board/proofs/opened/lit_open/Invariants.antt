@@ -1,12 +1,7 @@
 -- `board::opened::lit_open` meets its contract. The loop's invariant: no vertex before `v` is open and lit. Assumes nothing.
-use Prim.Native.Nat.{◌≤◌, ◌-◌}
-use lib.ListN.{length}
 use Rattle.model.specs.Refusals.{lit_open}
 use Rattle.board.proofs.Searching.{Passed}
 use Rattle.board.proofs.opened.lit_open.Given as goal
 
 abbrev pub invariant-loop-v : goal.invariant-loop-v
-invariant-loop-v l = (l.v ≤ length l.opened) × Passed (lit_open l.opened l.syndrome) l.v
-
-abbrev pub decreases-loop-v : goal.decreases-loop-v
-decreases-loop-v l = length l.opened - l.v
+invariant-loop-v l = Passed (lit_open l.opened l.syndrome) l.v

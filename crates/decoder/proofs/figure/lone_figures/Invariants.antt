@@ -1,10 +1,6 @@
--- `lone_figures` meets its contract. Assumes nothing.
-use Prim.Native.Nat.{◌≤◌, ◌-◌}
+-- `lone_figures` meets its contract: each turn writes one figure. Assumes nothing.
 use Rattle.decoder.specs.LoneFigures.{LoneFigures}
 use Rattle.decoder.proofs.figure.lone_figures.Given as goal
 
 abbrev pub invariant-loop-v : goal.invariant-loop-v
-invariant-loop-v l = (l.v ≤ l.vertices) × LoneFigures l.v l.opened l.syndrome l.exposure l.figure
-
-abbrev pub decreases-loop-v : goal.decreases-loop-v
-decreases-loop-v l = l.vertices - l.v
+invariant-loop-v l = LoneFigures l.v l.sheet.board.opened.now l.sheet.syndrome.now l.exposure l.figure

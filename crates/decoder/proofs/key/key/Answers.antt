@@ -15,8 +15,8 @@ returns-then-largest_byte-eq0 c = unlit_keyed c.args.growth _ _ _ _ _ _ _ c.requ
 pub first_odd-requires : goal.first_odd-requires
 first_odd-requires c = searchable c.args.growth _ _ _ _ _ _ _ c.requires
 
-pub returns-in-At : goal.returns-in-At
-returns-in-At c = shows_odd c.args.growth _ _ _ _ _ _ _ c.requires _ c.first_odd.ensures _ c.in-At.is
+pub returns-in-Some : goal.returns-in-Some
+returns-in-Some c = shows_odd c.args.growth _ _ _ _ _ _ _ c.requires _ c.first_odd.ensures _ c.in-Some.is
 
 pub run-ran-requires : goal.run-ran-requires
 run-ran-requires c = runnable c.args.growth _ _ _ _ _ _ _ c.requires _ c.first_odd.ensures c.in_default.is

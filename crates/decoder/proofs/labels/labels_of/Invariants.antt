@@ -1,12 +1,8 @@
 -- `labels_of` meets its contract: each turn writes one label. Assumes nothing.
-use Prim.Native.Nat.{◌≤◌, ◌-◌}
 use Rattle.union_find.specs.Packed.{parents_of}
 use Rattle.decoder.specs.Figures.{names_by}
 use Rattle.decoder.specs.TreeLabels.{Labelled}
 use Rattle.decoder.proofs.labels.labels_of.Given as goal
 
 abbrev pub invariant-loop-v : goal.invariant-loop-v
-invariant-loop-v l = (l.v ≤ l.vertices) × Labelled l.v (parents_of l.tree) (names_by l.figure) l.labels
-
-abbrev pub decreases-loop-v : goal.decreases-loop-v
-decreases-loop-v l = l.vertices - l.v
+invariant-loop-v l = Labelled l.v (parents_of l.tree) (names_by l.figure) l.labels

@@ -8,7 +8,7 @@ use Rattle.decoder.proofs.RingRaising.{Going}
 use Rattle.decoder.proofs.raising.raise_ring.Given as goal
 
 abbrev pub invariant-loop-v : goal.invariant-loop-v
-invariant-loop-v l = (w : RingRaisable l.latest l.earlier l.ring l.name.0 l.initial.support l.initial.filled l.count) → Going w l.v l.support l.filled l.total
+invariant-loop-v l = (w : RingRaisable l.lists.latest l.lists.earlier l.ring l.name.0 l.initial.support l.initial.filled l.count) → Going w l.v l.support l.filled l.total
 
 abbrev pub decreases-loop-v : goal.decreases-loop-v
 decreases-loop-v l = length (way vertex_limit l.ring (at l.ring l.v) l.name.0)

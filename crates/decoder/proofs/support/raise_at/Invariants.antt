@@ -10,7 +10,7 @@ use Rattle.decoder.proofs.support.raise_at.Given as goal
 -- of the loop.
 
 abbrev pub invariant-loop-place : goal.invariant-loop-place
-invariant-loop-place l = (v : ℕ) (w : RaisableAt l.latest l.earlier v l.initial.support l.initial.filled l.count) → l.initial.place ≡ at l.latest v → RaisedFrom w l.place l.total l.support l.filled
+invariant-loop-place l = (v : ℕ) (w : RaisableAt l.lists.latest l.lists.earlier v l.initial.support l.initial.filled l.count) → l.initial.place ≡ at l.lists.latest v → RaisedFrom w l.place l.total l.support l.filled
 
 abbrev pub decreases-loop-place : goal.decreases-loop-place
 decreases-loop-place l = l.place

@@ -4,7 +4,7 @@ use Rattle.distance.proofs.Tracing.{Tracing}
 use Rattle.distance.proofs.trace.trace.Given as goal
 
 abbrev pub invariant-loop-state : goal.invariant-loop-state
-invariant-loop-state l = Tracing l.ends l.marks l.depth l.via l.initial.state.0 l.state.0 l.found
+invariant-loop-state l = Tracing l.ends l.marks l.visits.depth l.visits.via l.initial.state.0 l.state.0 l.found
 
 abbrev pub decreases-loop-state : goal.decreases-loop-state
-decreases-loop-state l = at l.depth l.state.0
+decreases-loop-state l = at l.visits.depth l.state.0

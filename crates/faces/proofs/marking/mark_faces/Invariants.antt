@@ -1,7 +1,4 @@
 -- `faces::marking::mark_faces` meets its contract. The loop's invariant: the first i marks are those of the definition. Assumes nothing.
-use Prim.Native.Nat.{◌*◌, ◌-◌, ◌≤◌}
-use mathlib.Core.Path.{◌≡◌}
-use lib.ListN.{length}
 use Rattle.model.specs.Sums.{bit, ones}
 use Rattle.model.specs.Winding.{together}
 use Rattle.model.specs.Faces.{face_of}
@@ -9,8 +6,4 @@ use Rattle.torus.specs.Filling.{Filled}
 use Rattle.faces.proofs.marking.mark_faces.Given as goal
 
 abbrev pub invariant-loop-i : goal.invariant-loop-i
-invariant-loop-i l = (1 ≤ l.i) × (l.i ≤ l.side * l.side) × (length l.faces ≡ l.side * l.side)
-    × Filled (λ k. bit (face_of l.side (together (ones l.handed) (ones l.correction)) k)) l.i l.faces
-
-abbrev pub decreases-loop-i : goal.decreases-loop-i
-decreases-loop-i l = l.side * l.side - l.i
+invariant-loop-i l = Filled (λ k. bit (face_of l.side (together (ones l.handed) (ones l.correction)) k)) l.i l.faces

@@ -20,17 +20,17 @@ pub block-wind-requires : goal.block-wind-requires
 block-wind-requires t c =
     (omega (arith, c.decreases, c.if-masks-eq0.false), block_next _ _ _ _ c.requires _ c.loop-e-test.true (sym c.has.ensures ∙ c.if-has.true) _ c.alone-edge.ensures)
 
-pub block-returns-then-blocker_wins : goal.block-returns-then-blocker_wins
-block-returns-then-blocker_wins t c =
+pub block-returns-then-can_force : goal.block-returns-then-can_force
+block-returns-then-can_force t c =
     block_takes _ _ _ _ c.args.masks.left c.if-masks-eq0.false c.if-loops-hers-eq1.false
-    c.loop-e.invariant.1
+    c.loop-e.invariant
     c.loop-e-test.true
-    (block_judged _ _ _ _ _ _ _ _ c.alone-edge.ensures (sym c.has.ensures ∙ c.if-has.true) c.wind.ensures ∙ sym c.blocker_wins.ensures ∙ c.if-blocker_wins.true)
+    (block_judged _ _ _ _ _ _ _ _ c.alone-edge.ensures (sym c.has.ensures ∙ c.if-has.true) c.wind.ensures ∙ sym c.can_force.ensures ∙ c.if-can_force.true)
 
 pub block-returns : goal.block-returns
 block-returns t c =
     block_waits _ _ _ _ c.args.masks.left c.if-masks-eq0.false c.if-loops-hers-eq1.false
-    c.loop-e.invariant.1
+    c.loop-e.invariant
     c.loop-e-test.false
 
 -- Winder is to move
@@ -48,15 +48,15 @@ pub wind-block-requires : goal.wind-block-requires
 wind-block-requires t c =
     (omega (arith, c.decreases, c.if-masks-eq0.false), wind_next _ _ _ _ c.requires _ c.loop-e-test.true (sym c.has.ensures ∙ c.if-has.true) _ c.alone-edge.ensures)
 
-pub wind-returns-then-winder_wins : goal.wind-returns-then-winder_wins
-wind-returns-then-winder_wins t c =
+pub wind-returns-then-can_force : goal.wind-returns-then-can_force
+wind-returns-then-can_force t c =
     wind_takes _ _ _ _ c.args.masks.left c.if-masks-eq0.false c.if-loops-held-eq1.false
-    c.loop-e.invariant.1
+    c.loop-e.invariant
     c.loop-e-test.true
-    (wind_judged _ _ _ _ _ _ _ _ c.alone-edge.ensures (sym c.has.ensures ∙ c.if-has.true) c.block.ensures ∙ sym c.winder_wins.ensures ∙ c.if-winder_wins.true)
+    (wind_judged _ _ _ _ _ _ _ _ c.alone-edge.ensures (sym c.has.ensures ∙ c.if-has.true) c.block.ensures ∙ sym c.can_force.ensures ∙ c.if-can_force.true)
 
 pub wind-returns : goal.wind-returns
 wind-returns t c =
     wind_waits _ _ _ _ c.args.masks.left c.if-masks-eq0.false c.if-loops-held-eq1.false
-    c.loop-e.invariant.1
+    c.loop-e.invariant
     c.loop-e-test.false

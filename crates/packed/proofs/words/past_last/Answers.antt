@@ -16,4 +16,4 @@ returns-then-words-last-eq0 c =
 pub returns : goal.returns
 returns c =
     let a = c.args in
-    last_above a.items a.words.now c.requires.1 c.if-rest-eq0.false (c.shared_slice_known-1.given (a.items / 64)).fits c.if-words-last-eq0.false
+    last_above a.items a.words.now c.requires.1 c.if-rest-eq0.false (c.type_inv.words (a.items / 64)).fits c.if-words-last-eq0.false

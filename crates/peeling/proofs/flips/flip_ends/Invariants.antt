@@ -1,5 +1,4 @@
 -- `peeling::flips::flip_ends` meets its contract. The loop's invariant: the vertices passed that hold 1 have flipped. Assumes nothing.
-use Prim.Native.Nat.{◌-◌, ◌≤◌}
 use lib.ListN.{length}
 use Rattle.model.specs.Sums.{ones}
 use Rattle.union_find.specs.Packed.{parents_of}
@@ -7,7 +6,5 @@ use Rattle.peeling.specs.TreeFlips.{AllFlippable, AllFlipped}
 use Rattle.peeling.proofs.flips.flip_ends.Given as goal
 
 abbrev pub invariant-loop-v : goal.invariant-loop-v
-invariant-loop-v l = (l.v ≤ length l.lit) × AllFlippable (length l.lit) (parents_of l.tree) l.odd × AllFlipped (parents_of l.tree) l.v (ones l.lit) l.initial.odd l.odd
-
-abbrev pub decreases-loop-v : goal.decreases-loop-v
-decreases-loop-v l = length l.lit - l.v
+invariant-loop-v l =
+    AllFlippable (length l.lit) (parents_of l.tree) l.odd × AllFlipped (parents_of l.tree) l.v (ones l.lit) l.initial.odd l.odd

@@ -1,39 +1,33 @@
 use mathlib.Core.Path.{sym, ◌∙◌}
 use native.Mathlib.Omega.{arith}
-use borrow.Author.Rules.{rules}
-use Rattle.peeling.proofs.SpanLaws.{tree_fits, spanning_start, take_room, spanning_passed, spanning_next, spanning_done}
+use Rattle.peeling.proofs.SpanLaws.{spanning_start, take_room, spanning_passed, spanning_next, spanning_done}
 use Rattle.peeling.proofs.forest.span.Goals.{else-is_full, then-is_full}
 use Rattle.peeling.proofs.forest.span.Goals as goal
 
-pub alone-requires : goal.alone-requires
-alone-requires c = tree_fits c.requires
+pub loop-e-init : goal.loop-e-init
+loop-e-init c = spanning_start c.requires c.alone.ensures
 
-pub loop-left-init : goal.loop-left-init
-loop-left-init c = (search rules, spanning_start (omega arith) c.requires c.alone.ensures)
-
-pub take-count-requires : goal.take-count-requires
-take-count-requires c = record {
+pub take-requires : goal.take-requires
+take-requires c = record {
   vertices = c.args.vertices;
   edges = _;
   board = c.requires.board;
-  edge = omega (arith, c.loop-left-test.true);
-  packed = c.loop-left.invariant.1.packed;
-  room = take_room c.requires.board c.loop-left.invariant.1 (omega (arith, c.loop-left-test.true));
+  edge = c.loop-e-test.true;
+  packed = c.loop-e.invariant.packed;
+  room = take_room c.requires.board c.loop-e.invariant c.loop-e-test.true;
 }
 
-pub loop-left-preserved : goal.loop-left-preserved
-loop-left-preserved c =
-    let i = c.loop-left.invariant.1 in
+pub loop-e-preserved : goal.loop-e-preserved
+loop-e-preserved c =
+    let i = c.loop-e.invariant in
     elim c.if-is_full.branch [
-      | then-is_full w ↦ rw (w.tree-is, w.taken-is, w.links-is, w.count-is) (
-        search rules,
-        spanning_next c.requires.board i (omega arith) (sym c.is_full.ensures ∙ w.if-is_full.true) w.take-count.ensures (omega arith),
-      )
-      | else-is_full w ↦ rw (w.tree-is, w.taken-is, w.links-is, w.count-is) (
-        search rules,
-        spanning_passed c.requires.board i (omega arith) (sym c.is_full.ensures ∙ w.if-is_full.false) (omega arith),
-      )
+      | then-is_full w ↦
+          rw (w.tree-is, w.listed-is)
+          (spanning_next c.requires.board i c.loop-e-test.true (sym c.is_full.ensures ∙ w.if-is_full.true) w.take.ensures)
+      | else-is_full w ↦
+          rw (w.tree-is, w.listed-is)
+          (spanning_passed c.requires.board i c.loop-e-test.true (sym c.is_full.ensures ∙ w.if-is_full.false))
     ]
 
 pub returns : goal.returns
-returns c = spanning_done c.requires.board (omega arith) c.loop-left.invariant.1
+returns c = spanning_done c.requires.board (omega arith) c.loop-e.invariant

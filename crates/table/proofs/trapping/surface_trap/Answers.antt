@@ -4,4 +4,4 @@ use Rattle.table.proofs.Exported.{trap_exported}
 use Rattle.table.proofs.trapping.surface_trap.Goals as goal
 
 pub returns : goal.returns
-returns c = let all = trap_exported c.pack_trap.ensures (c.trap.ensures.outcome, c.trap.ensures.sound) in record { number = all.0; outcome = all.1.0; sound = all.1.1 }
+returns c = let all = trap_exported c.as_number.ensures (c.trap.ensures.outcome, c.trap.ensures.sound) in record { number = all.0; outcome = all.1.0; sound = all.1.1 }

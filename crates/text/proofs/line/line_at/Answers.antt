@@ -13,13 +13,14 @@ returns-then-text-end c =
     let a = c.args in
     record { line_read = sym (no_newline a.text.now a.at a.number _ c.line_end-end.ensures c.if-text-end.true); next_numbered = tt }
 
-pub returns-in_default : goal.returns-in_default
-returns-in_default c =
+pub returns-in_err-line : goal.returns-in_err-line
+returns-in_err-line c =
     let end = c.line_end-end in
     let a = c.args in
+    rw c.from_residual.ensures
     record {
       line_read =
-          ap (λ x. as_read x (end.result + 1) (a.number + 1)) (sym c.in_default.is ∙ c.line_of.ensures)
+          ap (λ x. as_read x (end.result + 1) (a.number + 1)) (sym c.in_err-line.was ∙ c.line_of.ensures)
           ∙ sym (newline_at a.text.now a.at a.number end.result end.ensures c.if-text-end.false);
       next_numbered = tt;
     }
@@ -35,7 +36,7 @@ returns c =
     let a = c.args in
     record {
       line_read =
-          ap (λ x. as_read x (end.result + 1) (a.number + 1)) (sym c.in-Line.is ∙ c.line_of.ensures)
+          ap (λ x. as_read x (end.result + 1) (a.number + 1)) (sym c.in_ok-line.was ∙ c.line_of.ensures)
           ∙ sym (newline_at a.text.now a.at a.number end.result end.ensures c.if-text-end.false);
       next_numbered =
           ap (λ i. i + 1) c.requires ∙ sym (next_number a.text.now a.at end.result end.ensures c.if-text-end.false);

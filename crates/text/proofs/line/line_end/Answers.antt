@@ -1,35 +1,24 @@
-use Prim.Native.Nat.{suc, ◌+◌}
-use mathlib.Core.Path.{◌≡◌, refl}
+-- `text::line::line_end` meets its contract: behind the text's end no byte is left, and before it the line's bytes are counted in the rest.
+-- Assumes nothing.
+use Rattle.std.proofs.Common.{◌≡◌, ◌+◌, ◌-◌, not, eqb, length, take, drop, take_while}
+use mathlib.Core.Path.{sym, ap, ◌∙◌}
 use native.Mathlib.Omega.{arith}
-use borrow.Author.Tests.{eq-eqb, ne_eqb}
-use lib.ListN.{length, get_or, drop}
+use Rattle.std.proofs.lemmas.List.{drop_all, take_all, length-drop}
 use Rattle.model.specs.Text.{newline}
 use Rattle.text.specs.Pieces.{up_to}
-use Rattle.text.proofs.PieceLaws.{up_to_at, up_to_end}
+use Rattle.text.proofs.PieceLaws.{up_to_while}
 use Rattle.text.proofs.line.line_end.Goals as goal
 
-pub loop-end-init : goal.loop-end-init
-loop-end-init c = refl
-
-pub returns-then-text-end-eq-NEWLINE : goal.returns-then-text-end-eq-NEWLINE
-returns-then-text-end-eq-NEWLINE c =
-    let w = c.loop-end in
-    let t = c.args.text.now in
-    let here : length (up_to newline (drop w.end t)) ≡ 0 =
-    rw (up_to_at newline t w.end c.loop-end-test.true, eq-eqb (get_or t w.end 0) newline c.if-text-end-eq-NEWLINE.true) in
-    omega (arith, w.invariant)
-
-pub loop-end-preserved : goal.loop-end-preserved
-loop-end-preserved c =
-    let w = c.loop-end in
-    let t = c.args.text.now in
-    let here : length (up_to newline (drop w.end t)) ≡ suc (length (up_to newline (drop (w.end + 1) t))) =
-    rw (up_to_at newline t w.end c.loop-end-test.true, ne_eqb (get_or t w.end 0) newline c.if-text-end-eq-NEWLINE.false) in
-    omega (arith, w.invariant)
+pub returns-then-text-at : goal.returns-then-text-at
+unfolding up_to
+returns-then-text-at c = rw (drop_all c.args.at c.args.text.now c.if-text-at.true) (omega arith)
 
 pub returns : goal.returns
 returns c =
-    let w = c.loop-end in
     let t = c.args.text.now in
-    let here : length (up_to newline (drop w.end t)) ≡ 0 = rw (up_to_end newline t w.end c.loop-end-test.false) in
-    omega (arith, w.invariant)
+    let at = c.args.at in
+    let rest : take (length t - at) (drop at t) ≡ drop at t = take_all _ _ (rw length-drop (omega arith)) in
+    ap (λ n. at + n)
+    (c.line_length.ensures
+    ∙ ap (λ l. length (take_while (λ b. not (eqb b newline)) l)) rest
+    ∙ sym (ap length (up_to_while newline (drop at t))))

@@ -1,13 +1,8 @@
 -- The loop's two parities are those of the edges passed. Assumes nothing.
-use Prim.Native.Nat.{◌≤◌, ◌-◌}
-use lib.ListN.{length}
 use Rattle.model.specs.Sums.{ones}
 use Rattle.model.specs.Winding.{together}
 use Rattle.verdict.proofs.CrossingCounts.{Counted}
 use Rattle.verdict.proofs.crossings.crossings.Given as goal
 
 abbrev pub invariant-loop-e : goal.invariant-loop-e
-invariant-loop-e l = (l.e ≤ length l.marks) × Counted l.marks (together (ones l.handed) (ones l.correction)) l.a l.b l.e
-
-abbrev pub decreases-loop-e : goal.decreases-loop-e
-decreases-loop-e l = length l.marks - l.e
+invariant-loop-e l = Counted l.marks (together (ones l.handed) (ones l.correction)) l.a l.b l.e

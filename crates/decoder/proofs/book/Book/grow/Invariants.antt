@@ -1,6 +1,6 @@
 -- `grow` meets its contract: document 01's step 4. Each turn of its loop fuses the ends of one newly full edge and joins their rings, unless
 -- they are together already. Assumes nothing.
-use Prim.Native.Nat.{ℕ, ◌≤◌, ◌-◌}
+use Prim.Native.Nat.{ℕ}
 use mathlib.Core.List.{List}
 use Rattle.decoder.specs.declared.book.Book.{Book}
 use Rattle.union_find.specs.Packed.{parents_of}
@@ -13,10 +13,6 @@ use Rattle.decoder.proofs.book.Book.grow.Given as goal
 abbrev pub made : ℕ → List ℕ → List ℕ → Book
 made vertices tree figure = record { vertices = vertices; tree = tree; figure = figure }
 
-abbrev pub invariant-loop-i : goal.invariant-loop-i
-invariant-loop-i l = (l.i ≤ l.count)
-    × (FusesListed (made l.vertices l.initial.tree l.initial.figure) l.ends l.filled l.i (made l.vertices l.tree l.figure)
-    × Rings l.vertices (parents_of l.tree) (names_by l.figure) l.exposure l.ring)
-
-abbrev pub decreases-loop-i : goal.decreases-loop-i
-decreases-loop-i l = l.count - l.i
+abbrev pub invariant-loop-number : goal.invariant-loop-number
+invariant-loop-number l = FusesListed (made l.vertices l.initial.tree l.initial.figure) l.ends l.listed l.number-index (made l.vertices l.tree l.figure)
+    × Rings l.vertices (parents_of l.tree) (names_by l.figure) l.exposure l.ring
