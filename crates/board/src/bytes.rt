@@ -23,8 +23,8 @@ fn place_above<N: Numbered>(bytes: &[u8], limit: u8) -> Option<N>
     requires { length bytes.now ≤ edge_limit }
     ensures { found N.value result ≡ first_up_to (length bytes.now) (above limit bytes.now) }
 {
-    for (i, &byte) in bytes.iter().enumerate() {
-        if byte > limit {
+    for i in 0..bytes.len() {
+        if bytes[i] > limit {
             return Some(N::at(i as u16));
         }
     }

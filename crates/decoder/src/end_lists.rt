@@ -21,8 +21,8 @@ impl EndLists {
         requires unlisted { Unlisted self.old.latest self.old.earlier }
         ensures { Listed ends.now self.new.latest self.new.earlier }
     {
-        for (i, end) in ends.iter().enumerate() {
-            let v = *end as usize;
+        for i in 0..ends.len() {
+            let v = ends[i] as usize;
             self.earlier[i] = self.latest[v];
             self.latest[v] = (i + 1) as u16;
         }

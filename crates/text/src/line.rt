@@ -116,6 +116,8 @@ fn line_of(line: &[u8]) -> Option<Line>
 }
 
 // The line of a text that begins at a position and has this number; a line without its newline is malformed.
+// It is made part of the reader's `next_line`, for the reason given there.
+#[inline(always)]
 pub fn line_at(text: &[u8], at: usize, number: usize) -> Option<LineRead>
     requires { number ≡ line_number text.now at }
     ensures { ReadsLine text.now at number result }

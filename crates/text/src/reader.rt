@@ -25,7 +25,9 @@ impl<'a> Lines<'a> {
         }
     }
 
-    // The next line, the position after it and the number of the line that begins there.
+    // The next line, the position after it and the number of the line that begins there. It is made part of both places that call it, so that
+    // a malformed line leads from where it is found to where it is refused; a call would make a whole value for it at each byte.
+    #[inline(always)]
     pub fn next_line(self) -> Option<LineRead>
         requires { self.number ≡ line_number self.text.now self.at }
         ensures { ReadsLine self.entry.text.now self.entry.at self.entry.number result }

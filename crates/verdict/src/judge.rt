@@ -14,7 +14,9 @@ use model::lent::Board;
 use model::limits::VERTICES;
 use model::numbers::Vertex;
 
-// Off with the smallest vertex, not open, at which the syndromes differ; otherwise same or wound, by the marks of the two sets together.
+// Off with the smallest vertex, not open, at which the syndromes differ; otherwise same or wound, by the marks of the two sets together. The
+// game asks it of every set of a small board, so that handing the board over would show.
+#[inline(always)]
 pub fn judge(board: Board<'_>, syndrome: &[u8], handed: &[u8], correction: &[u8]) -> Verdict
     requires { Judgeable (board_lent board) syndrome.now handed.now correction.now }
     ensures { result ≡ judged (board_lent board.entry) (ones syndrome.now) (ones correction.now) (ones handed.now) }

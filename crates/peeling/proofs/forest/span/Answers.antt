@@ -12,7 +12,7 @@ take-requires c = record {
   vertices = c.args.vertices;
   edges = _;
   board = c.requires.board;
-  edge = c.loop-e-test.true;
+  edge = omega (arith, c.loop-e-test.true);
   packed = c.loop-e.invariant.packed;
   room = take_room c.requires.board c.loop-e.invariant c.loop-e-test.true;
 }
